@@ -107,7 +107,7 @@ module _ {rows : List ℕ} {count : ℕ} {g : Grammar} (r : ImageOf rows count g
       reached m = getD (reachable g) m false || eqb endNumber m
 
       known-only : (m : ℕ) → m < nonterminalCount g → T (reached m) → T (getD (reachable g) m false)
-      known-only m l t = ⊎-elim (λ h. h) (λ h. absurd (let e : 63 ≡ m = eqb→eq endNumber m h in let a = r .narrow in omega arith)) (or-cases (getD (reachable g) m false) (eqb endNumber m) t)
+      known-only m l t = ⊎-elim (λ h. h) (λ h. absurd (let e : endNumber ≡ m = eqb→eq endNumber m h in let a = r .narrow in omega arith)) (or-cases (getD (reachable g) m false) (eqb endNumber m) t)
 
       closed : (p : ℕ) → p < count → ReachAt rows p reached
       closed p l t m a =

@@ -4,12 +4,12 @@ use native.Mathlib.Nat.{pow-suc}
 use native.Mathlib.Omega.{arith}
 use mathlib.Core.Path.{_≡_, refl, sym, _∙_, subst}
 use mathlib.Core.Logic.{⊎-elim}
-use mathlib.Core.Bool.{Bool, true, false, _||_}
+use mathlib.Core.Bool.{Bool, true, false, _||_, true≢false}
 use lib.Arith.{lt-one}
 use lib.Bits.{bitOr, or-lt}
 use lib.Dec.{T, eqb, eqb→eq}
 use borrow.Author.Tests.{eq-eqb}
-use Rattle.theory_base.specs.Members.{true→T, apart, or-cases, or-left, or-right, same-truth}
+use Rattle.theory_base.specs.Members.{true→T, or-cases, or-left, or-right, same-truth}
 use Rattle.token_set.specs.SetBits.{bit, has-bit, bit-lt, bit-suc, bit-first}
 use Rattle.set_words.specs.Views.{members, Inside}
 use Rattle.set_words.specs.Growth.{or-is}
@@ -25,9 +25,9 @@ same-bits (suc w) a b l m h =
 
 same-digit : (x y : ℕ) → x < 2 → y < 2 → eqb x 1 ≡ eqb y 1 → x ≡ y
 same-digit zero zero l m e = refl
-same-digit zero (suc zero) l m e = absurd (apart (sym e))
+same-digit zero (suc zero) l m e = absurd (true≢false (sym e))
 same-digit zero (suc (suc y)) l m e = absurd (omega arith)
-same-digit (suc zero) zero l m e = absurd (apart e)
+same-digit (suc zero) zero l m e = absurd (true≢false e)
 same-digit (suc zero) (suc zero) l m e = refl
 same-digit (suc zero) (suc (suc y)) l m e = absurd (omega arith)
 same-digit (suc (suc x)) y l m e = absurd (omega arith)
@@ -48,5 +48,5 @@ pub covers : (x s : ℕ) → x < 2 ^ 64 → s < 2 ^ 64 → Covers x s (eqb (bitO
 covers x s l m =
     record {
       inside = λ e n t. subst (λ (y : ℕ). T (members y n)) (eqb→eq (bitOr x s) s (true→T _ e)) (rw (or-is x s n) (or-left (members x n) (members s n) t));
-      outside = λ e i. apart (sym (eq-eqb (bitOr x s) s (covered x s l m i)) ∙ e);
+      outside = λ e i. true≢false (sym (eq-eqb (bitOr x s) s (covered x s l m i)) ∙ e);
     }

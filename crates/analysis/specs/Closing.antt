@@ -9,26 +9,27 @@ use mathlib.Core.List.{List, [], _∷_}
 use lib.Bits.{bitOr}
 use lib.Dec.{T, eqb→eq, eqb-refl, lit<, ltb, ltb→lt, lt→ltb}
 use lib.ListN.{length, getD}
+use Rattle.meaning.specs.Limits.{nonterminalsLimit}
 use Rattle.meaning.specs.Base.{all, any}
-use Rattle.meaning.specs.Grammar.{Symbol, terminal, nonterminal}
+use Rattle.meaning.specs.Grammar.{Symbol, terminal, nonterminal, nonterminalBase}
 use Rattle.meaning.specs.Sets.{singleton, endNumber}
 use Rattle.meaning.specs.Table.{symbolOf}
 use Rattle.theory_base.specs.Members.{T→true, and, both, or-cases, or-left, or-right}
 use Rattle.theory_sets.specs.Tests.{all-map}
 use Rattle.theory_sets.specs.TokenSets.{single-has, single-only}
 use Rattle.token_set.specs.SetBits.{setOf, set-end}
-use Rattle.outline.specs.Images.{Image, leftAt, rightAt, byteAt, sizeAt, right-length, right-at, symbol-terminal, symbol-nonterminal}
+use Rattle.outline.specs.Images.{Image, leftAt, rightAt, byteAt, sizeAt, right-length, right-at, symbol-terminal, symbol-nonterminal, symbolBytes}
 use Rattle.set_words.specs.Views.{members, Inside, Within, fit, fit-more, symbolBit, rightBy, ClosedAt}
 use Rattle.set_words.specs.Growth.{Grown, grown-none, grown-or, or-is, none-in}
 use Rattle.analysis.specs.Rounds.{Rising}
 
 -- only the first 48 numbers are in
 pub record Narrow (w : ℕ) : Type 0 where
-  pub low : Inside (members w) (λ n. ltb n 48)
+  pub low : Inside (members w) (λ n. ltb n nonterminalsLimit)
 
 abbrev lowSymbol : Symbol → Bool
 lowSymbol (terminal t) = true
-lowSymbol (nonterminal m) = ltb m 48
+lowSymbol (nonterminal m) = ltb m nonterminalsLimit
 
 all-by : (f : Symbol → Bool) (d : Symbol) (xs : List Symbol) → ((i : ℕ) → i < length xs → T (f (getD xs i d))) → T (all f xs)
 all-by f d [] h = tt
@@ -37,19 +38,19 @@ all-by f d (x ∷ xs) h = and (f x) (all f xs) (h 0 (suc-le-suc zero-le)) (all-b
 low-right : {rows : List ℕ} {count : ℕ} → Image rows count → (p : ℕ) → p < count → T (all lowSymbol (rightAt rows p))
 low-right {rows} {count} image p lt = all-by lowSymbol (symbolOf 0) (rightAt rows p) (λ i l. at i (rw (right-length rows count (image .room) p lt (image .sizes p lt)) at l))
   where
-    small : (n : ℕ) → n < 176 → Dec (n < 128) → T (lowSymbol (symbolOf n))
+    small : (n : ℕ) → n < symbolBytes → Dec (n < nonterminalBase) → T (lowSymbol (symbolOf n))
     small n l (yes h) = rw (symbol-terminal n h) tt
-    small n l (no h) = rw (symbol-nonterminal n (omega arith)) (lt→ltb (n - 128) 48 (omega arith))
+    small n l (no h) = rw (symbol-nonterminal n (omega arith)) (lt→ltb (n - nonterminalBase) nonterminalsLimit (omega arith))
 
     at : (i : ℕ) → i < sizeAt rows p → T (lowSymbol (getD (rightAt rows p) i (symbolOf 0)))
-    at i l = rw (right-at rows count (image .room) p lt (image .sizes p lt) i l) (small (byteAt rows p i) (image .symbols p i lt l) (decLt (byteAt rows p i) 128))
+    at i l = rw (right-at rows count (image .room) p lt (image .sizes p lt) i l) (small (byteAt rows p i) (image .symbols p i lt l) (decLt (byteAt rows p i) nonterminalBase))
 
 -- `known` has what `see` has, and the bit of the end where tokens may stand
 pub record Knows (b : Bool) (see known : ℕ → Bool) : Type 0 where
   pub tokens : T b → T (known endNumber)
   pub allowed : T (known endNumber) → T b
   pub into : Inside see known
-  pub outof : (m : ℕ) → m < 48 → T (known m) → T (see m)
+  pub outof : (m : ℕ) → m < nonterminalsLimit → T (known m) → T (see m)
 
 -- a set with no bit but that of the tokens, and whether it has it
 abbrev pub tokensIn : ℕ → Bool
@@ -61,13 +62,13 @@ pub record Free (w : ℕ) : Type 0 where
 pub free-none : Free 0
 free-none = record { only = λ n t. absurd (rw (none-in n) at t) }
 
-pub free-tokens : Free (2 ^ 63)
+pub free-tokens : Free (2 ^ endNumber)
 free-tokens = record { only = λ n t. single-only endNumber n (rw set-end at t) }
 
 pub tokens-none : tokensIn 0 ≡ false
 tokens-none = none-in endNumber
 
-pub tokens-in : tokensIn (2 ^ 63) ≡ true
+pub tokens-in : tokensIn (2 ^ endNumber) ≡ true
 tokens-in = T→true _ (rw set-end (single-has endNumber (lit< tt)))
 
 pub knows : (s w : ℕ) → Narrow s → Free w → Knows (tokensIn w) (members s) (members (bitOr s w))
@@ -89,7 +90,7 @@ module _ {b : Bool} {see known : ℕ → Bool} (k : Knows b see known) where
     where
       one : (x : Symbol) → T (lowSymbol x) → ((n : ℕ) → T (symbolBit n x) → T (known n)) → T (fit b see x)
       one (terminal t) l f = k .allowed (f endNumber (eqb-refl endNumber))
-      one (nonterminal m) l f = k .outof m (ltb→lt m 48 l) (f m (eqb-refl m))
+      one (nonterminal m) l f = k .outof m (ltb→lt m nonterminalsLimit l) (f m (eqb-refl m))
 
   known-all : (xs : List Symbol) (n : ℕ) → T (all (fit b see) xs) → T (any (symbolBit n) xs) → T (known n)
   known-all [] n f t = absurd t
@@ -117,11 +118,11 @@ module _ (b : Bool) {rows : List ℕ} {count : ℕ} (image : Image rows count) (
 
 -- left sides are low
 module _ (b : Bool) {rows : List ℕ} {count : ℕ} (image : Image rows count) where
-  low-closed : Within (ClosedAt b rows) 0 count (λ n. ltb n 48)
-  low-closed = record { at = λ p _ l _. lt→ltb (leftAt rows p) 48 (image .lefts p l) }
+  low-closed : Within (ClosedAt b rows) 0 count (λ n. ltb n nonterminalsLimit)
+  low-closed = record { at = λ p _ l _. lt→ltb (leftAt rows p) nonterminalsLimit (image .lefts p l) }
 
   pub narrow-grown : {P : (ℕ → Bool) → Type 0} (s r : ℕ) → Grown (Within (ClosedAt b rows) 0 count) P s r → Narrow s → Narrow r
-  narrow-grown s r g w = record { low = g .sound (λ n. ltb n 48) low-closed (w .low) }
+  narrow-grown s r g w = record { low = g .sound (λ n. ltb n nonterminalsLimit) low-closed (w .low) }
 
   pub narrow-rising : (s : ℕ) → Rising (Within (ClosedAt b rows) 0 count) 0 s → Narrow s
-  narrow-rising s w = record { low = w .least (λ n. ltb n 48) low-closed (λ n t. absurd (rw (none-in n) at t)) }
+  narrow-rising s w = record { low = w .least (λ n. ltb n nonterminalsLimit) low-closed (λ n t. absurd (rw (none-in n) at t)) }

@@ -1,10 +1,8 @@
 -- The first n numbers as one word, and words that have all that stands in the productions.
-use Prim.Native.Nat.{ℕ, zero, suc, _+_, _-_, _/_, _%_, _^_, _≤_, _<_, zero-le}
-use native.Mathlib.Decide.{decLt}
+use Prim.Native.Nat.{ℕ, zero, _+_, _-_, _/_, _%_, _^_, _≤_, _<_, zero-le}
 use native.Mathlib.Omega.{arith}
 use mathlib.Core.Path.{_≡_, refl, sym, ap, _∙_}
 use mathlib.Core.Logic.{⊎-elim}
-use mathlib.Core.Bool.{Bool}
 use mathlib.Core.List.{List, [], _∷_}
 use lib.Bits.{bitOr}
 use lib.Dec.{T, lit<, eqb, eqb→eq}
@@ -13,20 +11,13 @@ use lib.Seq.{drop-drop}
 use Rattle.meaning.specs.Base.{all, any, countFrom}
 use Rattle.meaning.specs.Grammar.{Symbol, terminal, nonterminal}
 use Rattle.meaning.specs.Sets.{endNumber}
-use Rattle.theory_base.specs.Members.{both, or-cases}
+use Rattle.theory_base.specs.Members.{or-cases}
 use Rattle.theory_sets.specs.TokenSets.{single-has}
 use Rattle.token_set.specs.SetBits.{bit, has-bit, set-end}
 use Rattle.outline.specs.Images.{Image, leftAt, rightAt}
 use Rattle.set_words.specs.Views.{members, symbolBit, rightBy, Below}
 use Rattle.set_words.specs.Growth.{or-left, or-right}
-
-from-true : (f : ℕ → Bool) (n j i : ℕ) → T (all f (countFrom j n)) → j ≤ i → i < j + n → T (f i)
-from-true f zero j i t p q = absurd (omega arith)
-from-true f (suc n) j i t p q = go (decLt j i) (λ l. from-true f n (suc j) i (both (f j) (all f (countFrom (suc j) n)) t .1) l (omega arith))
-  where
-    go : Dec (j < i) → (j < i → T (f i)) → T (f i)
-    go (yes l) more = more l
-    go (no l) more = let e : i ≡ j = omega arith in rw e (both (f j) (all f (countFrom (suc j) n)) t .0)
+use Rattle.analysis.specs.Numbers.{count-all}
 
 -- looked at one by one: there are few
 ones : T (all (λ n. all (λ a. eqb ((2 ^ n - 1) / 2 ^ a % 2) 1) (countFrom 0 n)) (countFrom 0 65))
@@ -36,7 +27,7 @@ pub first-in : (n a : ℕ) → n ≤ 64 → a < n → T (members (2 ^ n - 1) a)
 unfolding bit
 first-in n a l h =
     rw (has-bit (2 ^ n - 1) a (omega arith))
-    (from-true (λ b. eqb ((2 ^ n - 1) / 2 ^ b % 2) 1) n 0 a (from-true (λ m. all (λ b. eqb ((2 ^ m - 1) / 2 ^ b % 2) 1) (countFrom 0 m)) 65 0 n ones zero-le (omega arith)) zero-le (omega arith))
+    (count-all (λ b. eqb ((2 ^ n - 1) / 2 ^ b % 2) 1) 0 n (count-all (λ m. all (λ b. eqb ((2 ^ m - 1) / 2 ^ b % 2) 1) (countFrom 0 m)) 0 65 ones n zero-le (omega arith)) a zero-le (omega arith))
 
 -- ---- a word that has all left sides, or all symbols on the right
 pub record LeftsIn (rows : List ℕ) (count word : ℕ) : Type 0 where
@@ -74,5 +65,5 @@ module _ (n : ℕ) {rows : List ℕ} {count : ℕ} (b : Below n rows count) (wor
   rights-below tokens = record { right = λ p m l t. rights-from tokens p l m 0 (rightAt rows p) refl t }
 
 -- the first n numbers with the bit of the tokens have all symbols
-pub rights-with : (n : ℕ) {rows : List ℕ} {count : ℕ} → Below n rows count → (word every : ℕ) → every ≡ bitOr word (2 ^ 63) → ((a : ℕ) → a < n → T (members word a)) → RightsIn rows count every
-rights-with n b word every e full = rw e (rights-below n b (bitOr word (2 ^ 63)) (λ a h. or-left word (2 ^ 63) a (full a h)) (or-right word (2 ^ 63) endNumber (rw set-end (single-has endNumber (lit< tt)))))
+pub rights-with : (n : ℕ) {rows : List ℕ} {count : ℕ} → Below n rows count → (word every : ℕ) → every ≡ bitOr word (2 ^ endNumber) → ((a : ℕ) → a < n → T (members word a)) → RightsIn rows count every
+rights-with n b word every e full = rw e (rights-below n b (bitOr word (2 ^ endNumber)) (λ a h. or-left word (2 ^ endNumber) a (full a h)) (or-right word (2 ^ endNumber) endNumber (rw set-end (single-has endNumber (lit< tt)))))

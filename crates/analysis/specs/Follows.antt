@@ -9,8 +9,9 @@ use mathlib.Core.List.{List, [], _∷_}
 use lib.Bits.{bitOr}
 use lib.Dec.{T, lit<, ltb, ltb→lt, lt→ltb}
 use lib.ListN.{getD, length, drop, replicate}
+use Rattle.meaning.specs.Limits.{nonterminalsLimit}
 use Rattle.meaning.specs.Base.{all}
-use Rattle.meaning.specs.Grammar.{Symbol, terminal, nonterminal}
+use Rattle.meaning.specs.Grammar.{Symbol, terminal, nonterminal, nonterminalBase}
 use Rattle.meaning.specs.Sets.{has, singleton, endNumber}
 use Rattle.meaning.specs.Table.{symbolOf}
 use Rattle.token_set.specs.SetBits.{setOf, set-end}
@@ -128,14 +129,14 @@ module _ (gone : ℕ → Bool) (first : List ℕ) (s rest u : ℕ) where
   at : (x : Symbol) → symbolOf s ≡ x → turned ≡ turn true gone (sees first u) u x (members rest u)
   at x e = ap (λ (y : Symbol). turn true gone (sees first u) u y (members rest u)) e
 
-  pub turn-token : (r : ℕ) → s < 128 → setOf r ≡ singleton s → members r u ≡ turned
+  pub turn-token : (r : ℕ) → s < nonterminalBase → setOf r ≡ singleton s → members r u ≡ turned
   turn-token r h one = ap (λ (l : List Bool). has l u) one ∙ sym (at (terminal s) (symbol-terminal s h))
 
-  pub turn-on : 128 ≤ s → gone (s - 128) ≡ true → members (bitOr (getD first (s - 128) 0) rest) u ≡ turned
-  turn-on h c = or-is (getD first (s - 128) 0) rest u ∙ sym (at (nonterminal (s - 128)) (symbol-nonterminal s h) ∙ ap (λ (y : Bool). sees first u (s - 128) || (y && members rest u)) c)
+  pub turn-on : nonterminalBase ≤ s → gone (s - nonterminalBase) ≡ true → members (bitOr (getD first (s - nonterminalBase) 0) rest) u ≡ turned
+  turn-on h c = or-is (getD first (s - nonterminalBase) 0) rest u ∙ sym (at (nonterminal (s - nonterminalBase)) (symbol-nonterminal s h) ∙ ap (λ (y : Bool). sees first u (s - nonterminalBase) || (y && members rest u)) c)
 
-  pub turn-stop : 128 ≤ s → gone (s - 128) ≡ false → members (getD first (s - 128) 0) u ≡ turned
-  turn-stop h c = sym (at (nonterminal (s - 128)) (symbol-nonterminal s h) ∙ ap (λ (y : Bool). sees first u (s - 128) || (y && members rest u)) c ∙ or-false (sees first u (s - 128)))
+  pub turn-stop : nonterminalBase ≤ s → gone (s - nonterminalBase) ≡ false → members (getD first (s - nonterminalBase) 0) u ≡ turned
+  turn-stop h c = sym (at (nonterminal (s - nonterminalBase)) (symbol-nonterminal s h) ∙ ap (λ (y : Bool). sees first u (s - nonterminalBase) || (y && members rest u)) c ∙ or-false (sees first u (s - nonterminalBase)))
 
 -- ---- tails
 -- from place i of production p on: a nonterminal behind which all derives nothing has an edge to the left side
@@ -211,10 +212,10 @@ module _ (gone : ℕ → Bool) {rows : List ℕ} {count : ℕ} (image : Image ro
 
 -- ---- whether a symbol hands it on
 module _ (gone : ℕ → Bool) (s : ℕ) where
-  pub fit-token : s < 128 → fit false gone (symbolOf s) ≡ false
+  pub fit-token : s < nonterminalBase → fit false gone (symbolOf s) ≡ false
   fit-token h = ap (fit false gone) (symbol-terminal s h)
 
-  pub fit-nonterminal : 128 ≤ s → fit false gone (symbolOf s) ≡ gone (s - 128)
+  pub fit-nonterminal : nonterminalBase ≤ s → fit false gone (symbolOf s) ≡ gone (s - nonterminalBase)
   fit-nonterminal h = ap (fit false gone) (symbol-nonterminal s h)
 
 edge-lift : {gone : ℕ → Bool} {rows : List ℕ} {p b : ℕ} (f h : ℕ → Bool) → Inside f h → EdgeFrom gone rows p 0 b f → EdgeFrom gone rows p 0 b h
@@ -243,23 +244,23 @@ pub record Following (gone : ℕ → Bool) (first rows : List ℕ) (count start 
   pub least : (u : ℕ) (see : ℕ → Bool) → FollowClosed gone first rows count u see → (u ≡ endNumber → T (see start)) → Inside (sees t u) see
 
 module _ (gone : ℕ → Bool) (first rows : List ℕ) (count start : ℕ) where
-  pub following : (s t : List ℕ) → Added (replicate 48 0) (nonterminal start) (2 ^ 63) s → Filled (FollowClosed gone first rows count) (BasesTo gone first rows count) s t → Following gone first rows count start t
+  pub following : (s t : List ℕ) → Added (replicate nonterminalsLimit 0) (nonterminal start) (2 ^ endNumber) s → Filled (FollowClosed gone first rows count) (BasesTo gone first rows count) s t → Following gone first rows count start t
   following s t j f =
       record {
         begun = f .keeps endNumber start (j .adds start refl endNumber (rw set-end (single-has endNumber (lit< tt))));
         bases = f .holds;
-        least = λ u see k b. f .sound u see k (λ n h. ⊎-elim (λ z. absurd (zeros-none 48 u n z)) (there u see b n) (j .only u n h));
+        least = λ u see k b. f .sound u see k (λ n h. ⊎-elim (λ z. absurd (zeros-none nonterminalsLimit u n z)) (there u see b n) (j .only u n h));
       }
     where
-      there : (u : ℕ) (see : ℕ → Bool) → (u ≡ endNumber → T (see start)) → (n : ℕ) → (nonterminal start ≡ nonterminal n) × T (members (2 ^ 63) u) → T (see n)
+      there : (u : ℕ) (see : ℕ → Bool) → (u ≡ endNumber → T (see start)) → (n : ℕ) → (nonterminal start ≡ nonterminal n) × T (members (2 ^ endNumber) u) → T (see n)
       there u see b n w =
           let q = w .0 in
           let e : start ≡ n = cc in
           rw (sym e) (b (single-only endNumber u (rw set-end at (w .1))))
 
-  module _ (t e : List ℕ) (f : Following gone first rows count start t) (d : Filled (EdgesTo gone rows count) (EdgesTo gone rows count) (replicate 48 0) e) where
+  module _ (t e : List ℕ) (f : Following gone first rows count start t) (d : Filled (EdgesTo gone rows count) (EdgesTo gone rows count) (replicate nonterminalsLimit 0) e) where
     edges-in : (b : ℕ) (see : ℕ → Bool) → EdgesTo gone rows count b see → Inside (sees e b) see
-    edges-in b see c = d .sound b see c (λ n h. absurd (zeros-none 48 b n h))
+    edges-in b see c = d .sound b see c (λ n h. absurd (zeros-none nonterminalsLimit b n h))
 
     -- only nonterminals of the table have edges and sets
     module _ (n : ℕ) (b : Below n rows count) where

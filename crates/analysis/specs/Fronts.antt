@@ -4,18 +4,20 @@ use native.Mathlib.Decide.{decLt}
 use native.Mathlib.Omega.{arith}
 use mathlib.Core.Path.{_≡_, refl, sym, ap, _∙_}
 use mathlib.Core.Logic.{_⊎_, inl, inr, ⊎-elim}
-use mathlib.Core.Bool.{Bool, true, false, _&&_, _||_, or-false}
+use mathlib.Core.Bool.{Bool, true, false, _&&_, _||_, or-false, or-assoc}
 use mathlib.Core.List.{List, [], _∷_}
 use lib.Bits.{bitOr}
 use lib.Dec.{T, eqb, eqb→eq, eqb-refl}
 use lib.ListN.{getD, length, replicate}
+use Rattle.meaning.specs.Limits.{nonterminalsLimit}
 use Rattle.meaning.specs.Grammar.{Symbol, terminal, nonterminal}
 use Rattle.meaning.specs.Sets.{has, singleton}
 use Rattle.theory_base.specs.Members.{and, both, or-cases, or-left, or-right}
 use Rattle.token_set.specs.SetBits.{setOf}
 use Rattle.outline.specs.Images.{leftAt, rightAt}
 use Rattle.set_words.specs.Views.{members, sees, opens, opens-more, WithinAll, FrontAt, LeadAt, heads, leading, Below}
-use Rattle.set_words.specs.Growth.{or-is, or-assoc, none-in, single-is}
+use Rattle.set_words.specs.Growth.{or-is, none-in}
+use Rattle.theory_sets.specs.TokenSets.{single-is}
 use Rattle.analysis.specs.Tables.{Added, Short, SettledTable, zeros-none}
 use Rattle.analysis.specs.Spreading.{Carried, Spread}
 
@@ -133,13 +135,13 @@ module _ (gone : ℕ → Bool) (xs : List Symbol) where
 
 -- ---- tables gathered by left sides: entry a has u where f p u for one of the first k productions, with left side a
 pub record Gathers (f : ℕ → ℕ → Bool) (rows : List ℕ) (k : ℕ) (t : List ℕ) : Type 0 where
-  pub size : length t ≡ 48
+  pub size : length t ≡ nonterminalsLimit
   pub into : (p u : ℕ) → p < k → T (f p u) → T (sees t u (leftAt rows p))
   pub outof : (a u : ℕ) → T (sees t u a) → (p : ℕ) × (p < k) × (leftAt rows p ≡ a) × T (f p u)
 
 module _ (f : ℕ → ℕ → Bool) (rows : List ℕ) where
-  pub gathers-start : Gathers f rows 0 (replicate 48 0)
-  gathers-start = record { size = refl; into = λ p u l. absurd (omega arith); outof = λ a u h. absurd (zeros-none 48 u a h) }
+  pub gathers-start : Gathers f rows 0 (replicate nonterminalsLimit 0)
+  gathers-start = record { size = refl; into = λ p u l. absurd (omega arith); outof = λ a u h. absurd (zeros-none nonterminalsLimit u a h) }
 
   pub gathers-next : (k add : ℕ) (t r : List ℕ) → Gathers f rows k t → Added t (nonterminal (leftAt rows k)) add r → ((u : ℕ) → members add u ≡ f k u) → Gathers f rows (k + 1) r
   gathers-next k add t r g a is = record { size = a .size ∙ g .size; into = λ p u l h. in-next p u l h (decLt p k); outof = λ b u h. ⊎-elim (before b u) (here b u) (a .only u b h) }
@@ -169,8 +171,8 @@ leadingBy gone rows p u = leading gone u (rightAt rows p)
 
 -- ---- spread along these edges they are FIRST, and the edges themselves say what leads where
 module _ (gone : ℕ → Bool) (rows : List ℕ) (count : ℕ) (edges : List ℕ) (ge : Gathers (headsBy gone rows) rows count edges) where
-  pub first-settled : (own first : List ℕ) → Gathers (leadingBy gone rows) rows count own → Spread edges own first → SettledTable (WithinAll (FrontAt true gone rows) 0 count) (replicate 48 0) first
-  first-settled own first go sp = record { keeps = λ u n h. absurd (zeros-none 48 u n h); closed = λ u. record { at = λ p _ l t. shut u p l (opens-cases true gone (sees first u) u (rightAt rows p) t) }; least = λ u see c _. sp .least u see (carried u see c) }
+  pub first-settled : (own first : List ℕ) → Gathers (leadingBy gone rows) rows count own → Spread edges own first → SettledTable (WithinAll (FrontAt true gone rows) 0 count) (replicate nonterminalsLimit 0) first
+  first-settled own first go sp = record { keeps = λ u n h. absurd (zeros-none nonterminalsLimit u n h); closed = λ u. record { at = λ p _ l t. shut u p l (opens-cases true gone (sees first u) u (rightAt rows p) t) }; least = λ u see c _. sp .least u see (carried u see c) }
     where
       shut : (u p : ℕ) → p < count → T (leading gone u (rightAt rows p)) ⊎ ((m : ℕ) × T (heads gone m (rightAt rows p)) × T (sees first u m)) → T (sees first u (leftAt rows p))
       shut u p l (inl h) = sp .closed u .own (leftAt rows p) (go .into p u l h)
@@ -183,8 +185,8 @@ module _ (gone : ℕ → Bool) (rows : List ℕ) (count : ℕ) (edges : List ℕ
             edge = λ a b h s. let w = ge .outof a b h in rw (w .2) at (c .at (w .0) zero-le (w .1) (opens-head true gone see u b (rightAt rows (w .0)) (w .3) s));
           }
 
-  pub lead-settled : (led : List ℕ) → Spread edges edges led → SettledTable (WithinAll (LeadAt gone rows) 0 count) (replicate 48 0) led
-  lead-settled led sp = record { keeps = λ u n h. absurd (zeros-none 48 u n h); closed = λ u. record { at = λ p _ l t. shut u p l (opens-cases false gone (λ m. eqb m u || sees led u m) u (rightAt rows p) t) }; least = λ u see c _. sp .least u see (carried u see c) }
+  pub lead-settled : (led : List ℕ) → Spread edges edges led → SettledTable (WithinAll (LeadAt gone rows) 0 count) (replicate nonterminalsLimit 0) led
+  lead-settled led sp = record { keeps = λ u n h. absurd (zeros-none nonterminalsLimit u n h); closed = λ u. record { at = λ p _ l t. shut u p l (opens-cases false gone (λ m. eqb m u || sees led u m) u (rightAt rows p) t) }; least = λ u see c _. sp .least u see (carried u see c) }
     where
       on : (u p m : ℕ) → p < count → T (heads gone m (rightAt rows p)) → T (eqb m u) ⊎ T (sees led u m) → T (sees led u (leftAt rows p))
       on u p m l h (inl e) = sp .closed u .own (leftAt rows p) (ge .into p u l (rw (eqb→eq m u e) at h))

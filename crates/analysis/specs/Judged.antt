@@ -5,6 +5,7 @@ use mathlib.Core.Bool.{Bool, true, _&&_, not}
 use mathlib.Core.List.{List}
 use lib.Dec.{T}
 use lib.ListN.{getD, replicate}
+use Rattle.meaning.specs.Limits.{nonterminalsLimit}
 use Rattle.meaning.specs.Grammar.{Grammar, productionAt, nonterminalCount}
 use Rattle.meaning.specs.Derivation.{Listed}
 use Rattle.meaning.specs.Sets.{emptySet, has, singleton, nullable, emptyString, follow, starts}
@@ -31,11 +32,11 @@ module _ {rows : List ℕ} {count : ℕ} {g : Grammar} (r : ImageOf rows count g
       found-same (λ i. not (members reached i && members live i)) (isUseless g) (nonterminalCount g) n
       (λ j l. ap₂ (λ (p q : Bool). not (p && q)) (reachable-below r x reached one a j l) (productive-marks r live b .is j))
 
-  pub recursive-found : (null n : ℕ) (t : List ℕ) → Marks null (nullable g) → SettledTable (WithinAll (LeadAt (members null) rows) 0 count) (replicate 48 0) t → Found (λ i. sees t i i) (nonterminalCount g) n → Found (isLeftRecursive g) (nonterminalCount g) n
+  pub recursive-found : (null n : ℕ) (t : List ℕ) → Marks null (nullable g) → SettledTable (WithinAll (LeadAt (members null) rows) 0 count) (replicate nonterminalsLimit 0) t → Found (λ i. sees t i i) (nonterminalCount g) n → Found (isLeftRecursive g) (nonterminalCount g) n
   recursive-found null n t gone st = found-same (λ i. sees t i i) (isLeftRecursive g) (nonterminalCount g) n (λ j l. recursive-is r null gone t st j)
 
   -- FOLLOW is needed only where some nonterminal derives nothing
-  pub starts-found : (null : ℕ) (f t sets : List ℕ) → Marks null (nullable g) → SettledTable (WithinAll (FrontAt true (members null) rows) 0 count) (replicate 48 0) f
+  pub starts-found : (null : ℕ) (f t sets : List ℕ) → Marks null (nullable g) → SettledTable (WithinAll (FrontAt true (members null) rows) 0 count) (replicate nonterminalsLimit 0) f
       → ((null ≡ 0 → ⊥) → Followed (members null) f rows count (g .start) t) → SetsTo (startsBy (members null) f t rows) count sets → (p : ℕ) → Listed g p → setOf (getD sets p 0) ≡ starts g (productionAt g p)
   starts-found null f t sets gone fs fo st p l =
       let m = counted r p l in

@@ -6,6 +6,7 @@ use mathlib.Core.Bool.{Bool, false, _&&_, _||_}
 use mathlib.Core.List.{List, [], _∷_, _++_, nil≢cons, head-eq-of-cons-eq}
 use lib.Dec.{T, eqb, eqb→eq, eqb-refl, ltb→lt}
 use lib.ListN.{getD, replicate}
+use Rattle.meaning.specs.Limits.{nonterminalsLimit}
 use Rattle.meaning.specs.Base.{all, any}
 use Rattle.meaning.specs.Grammar.{Symbol, terminal, nonterminal, Grammar, productionAt, nonterminalCount, isNonterminal}
 use Rattle.meaning.specs.Derivation.{Listed, LeftRecursive}
@@ -86,9 +87,9 @@ module _ {rows : List ℕ} {count : ℕ} {g : Grammar} (r : ImageOf rows count g
           on (inl e) = rw (eqb→eq (w .0) n e) at (led-start p (w .0) l (w .1))
           on (inr h) = led-trans (productionAt g p .left) (w .0) n (led-start p (w .0) l (w .1)) h
 
-  module _ (t : List ℕ) (st : SettledTable (WithinAll (LeadAt (members null) rows) 0 count) (replicate 48 0) t) where
+  module _ (t : List ℕ) (st : SettledTable (WithinAll (LeadAt (members null) rows) 0 count) (replicate nonterminalsLimit 0) t) where
     to : (n : ℕ) → T (sees t n n) → T (isLeftRecursive g n)
-    to n = st .least n (λ m. getD (led m) n false) (record { at = λ p _ l h. rw (r .left p l) (lead-on n p (listed r p l) (rw (r .right p l) at h)) }) (λ m h. absurd (zeros-none 48 n m h)) n
+    to n = st .least n (λ m. getD (led m) n false) (record { at = λ p _ l h. rw (r .left p l) (lead-on n p (listed r p l) (rw (r .right p l) at h)) }) (λ m h. absurd (zeros-none nonterminalsLimit n m h)) n
 
     -- a is m or leads to m, by the table
     abbrev near : ℕ → ℕ → Bool

@@ -1,5 +1,5 @@
 -- A table of sets, one word for each nonterminal.
-use Prim.Native.Nat.{ℕ, zero, suc, _≤_, _<_}
+use Prim.Native.Nat.{ℕ, _≤_, _<_}
 use native.Mathlib.Decide.{ℕ-discrete}
 use native.Mathlib.Omega.{arith}
 use mathlib.Core.Path.{_≡_, refl, sym, ap, subst}
@@ -13,6 +13,7 @@ use lib.Seq.{getD-set-same, getD-set-other}
 use Rattle.meaning.specs.Grammar.{Symbol, terminal, nonterminal}
 use Rattle.set_words.specs.Views.{members, sees, Inside}
 use Rattle.set_words.specs.Growth.{or-left, or-right, or-members, none-in}
+use Rattle.theory_base.specs.Members.{replicate-at}
 
 -- r is t with `add` added to the set of a symbol's nonterminal
 pub record Added (t : List ℕ) (x : Symbol) (add : ℕ) (r : List ℕ) : Type 0 where
@@ -61,13 +62,9 @@ added-none t s add =
     }
 
 -- the empty table
-pub zeros : (n a : ℕ) → _≡_ {A = ℕ} (getD (replicate n 0) a 0) 0
-zeros zero a = refl
-zeros (suc n) zero = refl
-zeros (suc n) (suc a) = zeros n a
 
 pub zeros-none : (n u a : ℕ) → T (sees (replicate n 0) u a) → ⊥
-zeros-none n u a h = let y : T (members 0 u) = rw (zeros n a) at h in rw (none-in u) at y
+zeros-none n u a h = let y : T (members 0 u) = rw (replicate-at {A = ℕ} n a 0) at h in rw (none-in u) at y
 
 -- the first n nonterminals alone have sets
 pub record Short (n : ℕ) (t : List ℕ) : Type 0 where

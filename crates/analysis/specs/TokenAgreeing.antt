@@ -7,6 +7,7 @@ use mathlib.Core.List.{List, [], _∷_, _++_, map}
 use lib.Dec.{T, ltb→lt}
 use lib.ListN.{getD, length, take, drop, replicate, List·getD-map, take-append-drop}
 use lib.Seq.{drop-append-seam}
+use Rattle.meaning.specs.Limits.{nonterminalsLimit}
 use Rattle.meaning.specs.Base.{all}
 use Rattle.meaning.specs.Grammar.{Symbol, terminal, nonterminal, Grammar, productionAt, nonterminalCount}
 use Rattle.meaning.specs.Derivation.{Listed}
@@ -80,14 +81,14 @@ below {g = g} r =
     }
 
 module _ {rows : List ℕ} {count : ℕ} {g : Grammar} (r : ImageOf rows count g) (null : ℕ) (gone : Marks null (nullable g)) where
-  pub first-holds : (t : List ℕ) → SettledTable (WithinAll (FrontAt true (members null) rows) 0 count) (replicate 48 0) t → Holds t (first g)
+  pub first-holds : (t : List ℕ) → SettledTable (WithinAll (FrontAt true (members null) rows) 0 count) (replicate nonterminalsLimit 0) t → Holds t (first g)
   first-holds t st = record { is = λ n u. same-truth (sees t u n) (has (getD (first g) n emptySet) u) (to u n) (back u n) }
     where
       closed : (u p : ℕ) → p < count → FrontAt true (members null) rows u p (λ n. has (getD (first g) n emptySet) u)
       closed u p l h = rw (r .left p l) (first-closed (r .sound) u p (listed r p l) (rw (r .right p l, opens-first (members null) (nullable g) (gone .is) (first g) (λ n. has (getD (first g) n emptySet) u) u (λ n. refl) (productionAt g p .right)) at h))
 
       to : (u n : ℕ) → T (sees t u n) → T (has (getD (first g) n emptySet) u)
-      to u = st .least u (λ n. has (getD (first g) n emptySet) u) (record { at = λ p _. closed u p }) (λ n h. absurd (zeros-none 48 u n h))
+      to u = st .least u (λ n. has (getD (first g) n emptySet) u) (record { at = λ p _. closed u p }) (λ n h. absurd (zeros-none nonterminalsLimit u n h))
 
       table : (u p : ℕ) → Listed g p → T (has (firstString (nullable g) (setsOf t) (productionAt g p .right)) u) → T (has (getD (setsOf t) (productionAt g p .left) emptySet) u)
       table u p l h =

@@ -8,6 +8,7 @@ ghost use mathlib.Core.Bool.{true, false};
 ghost use Prim.Native.Nat.{ℕ, _≤_, _<_};
 ghost use lib.Dec.{T};
 ghost use lib.ListN.{getD};
+ghost use Rattle.meaning.specs.Limits.{nonterminalsLimit};
 ghost use Rattle.outline.specs.Images.{Image};
 ghost use Rattle.set_words.specs.Views.{members, rightBy, ClosedAt, Imaged, Within};
 ghost use Rattle.set_words.specs.Growth.{Grown, Settled, SetsTo};
@@ -84,7 +85,7 @@ fn close_round_back(
 
 // The first n numbers.
 pub fn first_of(n: usize) -> NonterminalSet
-    requires { ⌜ n ≤ 48 ⌝ }
+    requires { ⌜ n ≤ nonterminalsLimit ⌝ }
     ensures { λ r. ⌜ ((a : ℕ) → a < n → T (members (r .0) a)) ⌝ }
 {
     NonterminalSet((1u64 << n) - 1)

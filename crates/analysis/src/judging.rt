@@ -2,12 +2,13 @@
 use nonterminal_set::NonterminalSet;
 ghost use mathlib.Core.Bool.{not, _&&_};
 ghost use Prim.Native.Nat.{_<_, _≤_};
+ghost use Rattle.meaning.specs.Limits.{nonterminalsLimit};
 ghost use Rattle.set_words.specs.Views.{members};
 ghost use Rattle.analysis.specs.Numbers.{Found};
 
 // The lowest of the first n numbers that is not in both sets; n where there is none.
 pub fn lowest_useless(reached: NonterminalSet, productive: NonterminalSet, n: usize) -> usize
-    requires { ⌜ n ≤ 48 ⌝ }
+    requires { ⌜ n ≤ nonterminalsLimit ⌝ }
     ensures { λ r. ⌜ Found (λ i. not (members (reached .0) i && members (productive .0) i)) n r ⌝ }
 {
     let mut i: usize = 0;

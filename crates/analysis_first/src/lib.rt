@@ -12,6 +12,7 @@ ghost use mathlib.Core.Path.{_≡_};
 ghost use mathlib.Core.Bool.{true};
 ghost use Prim.Native.Nat.{ℕ, _≤_};
 ghost use lib.ListN.{replicate};
+ghost use Rattle.meaning.specs.Limits.{nonterminalsLimit};
 ghost use Rattle.outline.specs.Images.{Image, rightAt};
 ghost use Rattle.set_words.specs.Views.{members, sees, WithinAll, opens, FrontAt, LeadAt, Below, Imaged};
 ghost use Rattle.analysis.specs.Tables.{SettledTable};
@@ -92,7 +93,7 @@ fn edges_of(
     edges: &mut [u64; NONTERMINALS],
     sets: &mut [u64; NONTERMINALS],
 )
-    requires { ⌜ Image (now rows) count × (now edges ≡ replicate 48 0) × (now sets ≡ replicate 48 0) ⌝ }
+    requires { ⌜ Image (now rows) count × (now edges ≡ replicate nonterminalsLimit 0) × (now sets ≡ replicate nonterminalsLimit 0) ⌝ }
     ensures edges { λ r. ⌜ Gathers (headsBy (members (null .0)) (now (rows .entry))) (now (rows .entry)) count (now (edges .exit)) ⌝ }
     ensures sets { λ r. ⌜ Gathers (leadingBy (members (null .0)) (now (rows .entry))) (now (rows .entry)) count (now (sets .exit)) ⌝ }
 {
@@ -115,9 +116,9 @@ pub fn fronts(
     led: &mut [u64; NONTERMINALS],
     first: &mut [u64; NONTERMINALS],
 )
-    requires { ⌜ Image (now rows) count × (n ≤ 48) × (now led ≡ replicate 48 0) × (now first ≡ replicate 48 0) ⌝ }
-    ensures led { λ r. ⌜ (Below n (now (rows .entry)) count → SettledTable (WithinAll (LeadAt (members (null .0)) (now (rows .entry))) 0 count) (replicate 48 0) (now (led .exit))) ⌝ }
-    ensures first { λ r. ⌜ (Below n (now (rows .entry)) count → SettledTable (WithinAll (FrontAt true (members (null .0)) (now (rows .entry))) 0 count) (replicate 48 0) (now (first .exit))) ⌝ }
+    requires { ⌜ Image (now rows) count × (n ≤ nonterminalsLimit) × (now led ≡ replicate nonterminalsLimit 0) × (now first ≡ replicate nonterminalsLimit 0) ⌝ }
+    ensures led { λ r. ⌜ (Below n (now (rows .entry)) count → SettledTable (WithinAll (LeadAt (members (null .0)) (now (rows .entry))) 0 count) (replicate nonterminalsLimit 0) (now (led .exit))) ⌝ }
+    ensures first { λ r. ⌜ (Below n (now (rows .entry)) count → SettledTable (WithinAll (FrontAt true (members (null .0)) (now (rows .entry))) 0 count) (replicate nonterminalsLimit 0) (now (first .exit))) ⌝ }
 {
     edges_of(rows, count, null, led, first);
     spread(led, first, n);

@@ -12,15 +12,16 @@ ghost use mathlib.Core.Path.{_≡_};
 ghost use mathlib.Core.Bool.{true, false, cond};
 ghost use Prim.Native.Nat.{ℕ, _<_, _≤_};
 ghost use lib.ListN.{length, replicate};
+ghost use Rattle.meaning.specs.Limits.{nonterminalsLimit};
 ghost use Rattle.meaning.specs.Table.{symbolOf};
-ghost use Rattle.outline.specs.Images.{Image};
+ghost use Rattle.outline.specs.Images.{Image, symbolBytes};
 ghost use Rattle.set_words.specs.Views.{members, sees, turn, fit, Below, Imaged};
 ghost use Rattle.analysis.specs.Tables.{Added};
 ghost use Rattle.analysis.specs.Follows.{BaseFrom, BasesTo, EdgeFrom, EdgesTo, Behind, Followed};
 
 // What a string begins with whose first symbol is s, from what the rest begins with.
 fn begin_with(s: u8, null: NonterminalSet, first: &[u64; NONTERMINALS], rest: TokenSet) -> TokenSet
-    requires { ⌜ s < 176 ⌝ }
+    requires { ⌜ s < symbolBytes ⌝ }
     ensures { λ r. ⌜ ((u : ℕ) → members (r .0) u ≡ turn true (members (null .0)) (sees (now (first .entry)) u) u (symbolOf s) (members (rest .0) u)) ⌝ }
 {
     if s < 128 {
@@ -42,7 +43,7 @@ fn mark(
     rest: TokenSet,
     up: NonterminalSet,
 )
-    requires { ⌜ (s < 176) × (length (now table) ≡ 48) × (length (now edges) ≡ 48) ⌝ }
+    requires { ⌜ (s < symbolBytes) × (length (now table) ≡ nonterminalsLimit) × (length (now edges) ≡ nonterminalsLimit) ⌝ }
     ensures table { λ r. ⌜ Added (now (table .entry)) (symbolOf s) (rest .0) (now (table .exit)) ⌝ }
     ensures edges { λ r. ⌜ Added (now (edges .entry)) (symbolOf s) (up .0) (now (edges .exit)) ⌝ }
 {
@@ -55,7 +56,7 @@ fn mark(
 
 // What is handed on past a symbol: the same where it derives nothing, else none.
 fn onward(s: u8, null: NonterminalSet, up: NonterminalSet) -> NonterminalSet
-    requires { ⌜ s < 176 ⌝ }
+    requires { ⌜ s < symbolBytes ⌝ }
     ensures { λ r. ⌜ r .0 ≡ cond (fit false (members (null .0)) (symbolOf s)) (up .0) 0 ⌝ }
 {
     if s < 128 {
@@ -69,7 +70,7 @@ fn onward(s: u8, null: NonterminalSet, up: NonterminalSet) -> NonterminalSet
 
 // A symbol that left both sets as they were: another one like it would change nothing. Else 255, which is none.
 fn still(s: u8, rest: TokenSet, next: TokenSet, up: NonterminalSet, on: NonterminalSet) -> u8
-    ensures { λ r. ⌜ (r < 176 → (r ≡ s) × (next .0 ≡ rest .0) × (on .0 ≡ up .0)) ⌝ }
+    ensures { λ r. ⌜ (r < symbolBytes → (r ≡ s) × (next .0 ≡ rest .0) × (on .0 ≡ up .0)) ⌝ }
 {
     if next.0 != rest.0 {
         return 255;
@@ -90,7 +91,7 @@ fn behind_by(
     table: &mut [u64; NONTERMINALS],
     edges: &mut [u64; NONTERMINALS],
 )
-    requires { ⌜ Imaged (now rows) k × (length (now table) ≡ 48) × (length (now edges) ≡ 48) ⌝ }
+    requires { ⌜ Imaged (now rows) k × (length (now table) ≡ nonterminalsLimit) × (length (now edges) ≡ nonterminalsLimit) ⌝ }
     ensures { λ r. ⌜ ((count : ℕ) → Image (now (rows .entry)) count → k < count
         → Behind (members (null .0)) (now (first .entry)) (now (rows .entry)) count (λ u. BaseFrom (members (null .0)) (now (first .entry)) (now (rows .entry)) u k 0) (EdgeFrom (members (null .0)) (now (rows .entry)) k 0)
         (now (table .entry)) (now (edges .entry)) (now (table .exit)) (now (edges .exit))) ⌝ }
@@ -124,7 +125,7 @@ fn behinds(
     table: &mut [u64; NONTERMINALS],
     edges: &mut [u64; NONTERMINALS],
 )
-    requires { ⌜ Image (now rows) count × (length (now table) ≡ 48) × (length (now edges) ≡ 48) ⌝ }
+    requires { ⌜ Image (now rows) count × (length (now table) ≡ nonterminalsLimit) × (length (now edges) ≡ nonterminalsLimit) ⌝ }
     ensures { λ r. ⌜ Behind (members (null .0)) (now (first .entry)) (now (rows .entry)) count (BasesTo (members (null .0)) (now (first .entry)) (now (rows .entry)) count) (EdgesTo (members (null .0)) (now (rows .entry)) count)
         (now (table .entry)) (now (edges .entry)) (now (table .exit)) (now (edges .exit)) ⌝ }
 {
@@ -145,7 +146,7 @@ pub fn follow(
     first: &[u64; NONTERMINALS],
     table: &mut [u64; NONTERMINALS],
 )
-    requires { ⌜ Image (now rows) count × (n ≤ 48) × (start < 48) × (now table ≡ replicate 48 0) ⌝ }
+    requires { ⌜ Image (now rows) count × (n ≤ nonterminalsLimit) × (start < nonterminalsLimit) × (now table ≡ replicate nonterminalsLimit 0) ⌝ }
     ensures { λ r. ⌜ (Below n (now (rows .entry)) count → start < n → Followed (members (null .0)) (now (first .entry)) (now (rows .entry)) count start (now (table .exit))) ⌝ }
 {
     let mut edges = [0u64; NONTERMINALS];

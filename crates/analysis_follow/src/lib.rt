@@ -11,6 +11,7 @@ ghost use mathlib.Core.Path.{_≡_};
 ghost use mathlib.Core.Bool.{true};
 ghost use Prim.Native.Nat.{ℕ, _<_, _≤_};
 ghost use lib.ListN.{length, getD, replicate};
+ghost use Rattle.meaning.specs.Limits.{nonterminalsLimit, productionsLimit};
 ghost use Rattle.meaning.specs.Grammar.{Grammar, productionAt, nonterminalCount};
 ghost use Rattle.meaning.specs.Derivation.{Listed};
 ghost use Rattle.meaning.specs.Sets.{nullable, starts};
@@ -31,7 +32,7 @@ fn follow_where(
     first: &[u64; NONTERMINALS],
     table: &mut [u64; NONTERMINALS],
 )
-    requires { ⌜ Image (now rows) count × (n ≤ 48) × (start < 48) × (now table ≡ replicate 48 0) ⌝ }
+    requires { ⌜ Image (now rows) count × (n ≤ nonterminalsLimit) × (start < nonterminalsLimit) × (now table ≡ replicate nonterminalsLimit 0) ⌝ }
     ensures { λ r. ⌜ ((null .0 ≡ 0 → ⊥) → Below n (now (rows .entry)) count → start < n → Followed (members (null .0)) (now (first .entry)) (now (rows .entry)) count start (now (table .exit))) ⌝ }
 {
     if null.is_empty() {
@@ -50,9 +51,9 @@ pub fn starting(
     first: &[u64; NONTERMINALS],
     sets: &mut [u64; PRODUCTIONS],
 )
-    requires { ⌜ Image (now rows) count × (n ≤ 48) × (start < 48) × (length (now sets) ≡ 128) ⌝ }
+    requires { ⌜ Image (now rows) count × (n ≤ nonterminalsLimit) × (start < nonterminalsLimit) × (length (now sets) ≡ productionsLimit) ⌝ }
     ensures { λ r. ⌜ ((g : Grammar) → ImageOf (now (rows .entry)) count g → n ≡ nonterminalCount g → start ≡ g .start → Marks (null .0) (nullable g)
-        → SettledTable (WithinAll (FrontAt true (members (null .0)) (now (rows .entry))) 0 count) (replicate 48 0) (now (first .entry))
+        → SettledTable (WithinAll (FrontAt true (members (null .0)) (now (rows .entry))) 0 count) (replicate nonterminalsLimit 0) (now (first .entry))
         → (p : ℕ) → Listed g p → setOf (getD (now (sets .exit)) p 0) ≡ starts g (productionAt g p)) ⌝ }
 {
     let mut after = [0u64; NONTERMINALS];

@@ -9,6 +9,7 @@ use outline::left_of;
 ghost use mathlib.Core.Path.{_≡_};
 ghost use Prim.Native.Nat.{ℕ, _<_, _≤_};
 ghost use lib.ListN.{getD};
+ghost use Rattle.meaning.specs.Limits.{nonterminalsLimit};
 ghost use Rattle.meaning.specs.Grammar.{Grammar, nonterminalCount};
 ghost use Rattle.outline.specs.Images.{Image, ImageOf};
 ghost use Rattle.set_words.specs.Views.{members, rightBy, ReachAt, Imaged, Within};
@@ -110,7 +111,7 @@ pub fn useless(
     start: u8,
     rights: &[u64; PRODUCTIONS],
 ) -> usize
-    requires { ⌜ Image (now rows) count × (nonterminals ≤ 48) × (start < 48) × SetsTo (rightBy (now rows)) count (now rights) ⌝ }
+    requires { ⌜ Image (now rows) count × (nonterminals ≤ nonterminalsLimit) × (start < nonterminalsLimit) × SetsTo (rightBy (now rows)) count (now rights) ⌝ }
     ensures { λ r. ⌜ ((g : Grammar) → ImageOf (now (rows .entry)) count g → nonterminals ≡ nonterminalCount g → start ≡ g .start
         → Found (isUseless g) (nonterminalCount g) r) ⌝ }
 {

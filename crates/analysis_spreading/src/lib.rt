@@ -6,13 +6,14 @@ ghost use mathlib.Core.Path.{_≡_};
 ghost use mathlib.Core.List.{List};
 ghost use Prim.Native.Nat.{ℕ, _+_, _<_, _≤_};
 ghost use lib.ListN.{length, getD};
+ghost use Rattle.meaning.specs.Limits.{nonterminalsLimit};
 ghost use Rattle.meaning.specs.Grammar.{nonterminal};
 ghost use Rattle.analysis.specs.Tables.{Added};
 ghost use Rattle.analysis.specs.Spreading.{United, Turned, Spreads};
 
 // Adds a set, of tokens or of nonterminals, to entry a of a table.
 pub fn add(table: &mut [u64; NONTERMINALS], a: usize, more: u64)
-    requires { ⌜ (a < 48) × (length (now table) ≡ 48) ⌝ }
+    requires { ⌜ (a < nonterminalsLimit) × (length (now table) ≡ nonterminalsLimit) ⌝ }
     ensures { λ r. ⌜ Added (now (table .entry)) (nonterminal a) more (now (table .exit)) ⌝ }
 {
     table[a] = table[a] | more;
@@ -20,7 +21,7 @@ pub fn add(table: &mut [u64; NONTERMINALS], a: usize, more: u64)
 
 // All that the first n entries of a table of nonterminals have.
 fn union_of(table: &[u64; NONTERMINALS], n: usize) -> NonterminalSet
-    requires { ⌜ n ≤ 48 ⌝ }
+    requires { ⌜ n ≤ nonterminalsLimit ⌝ }
     ensures { λ r. ⌜ United (now (table .entry)) n (r .0) ⌝ }
 {
     let mut out = NonterminalSet::EMPTY;
@@ -42,7 +43,7 @@ fn give(
     edge: u64,
     set: u64,
 )
-    requires { ⌜ (length (now edges) ≡ 48) × (length (now sets) ≡ 48) × (k < 48) × (at < 48) ⌝ }
+    requires { ⌜ (length (now edges) ≡ nonterminalsLimit) × (length (now sets) ≡ nonterminalsLimit) × (k < nonterminalsLimit) × (at < nonterminalsLimit) ⌝ }
     ensures { λ r. ⌜ ((e s : List ℕ) → edge ≡ getD e k 0 → set ≡ getD s k 0 → Turned k e e (now (edges .entry)) at → Turned k e s (now (sets .entry)) at
         → Turned k e e (now (edges .exit)) (at + 1) × Turned k e s (now (sets .exit)) (at + 1)) ⌝ }
 {
@@ -56,7 +57,7 @@ fn give(
 
 // Gives what entry k has, edges and set, to the entries with an edge to k. Two of them at a turn take less than one after the other.
 fn spread_by(edges: &mut [u64; NONTERMINALS], sets: &mut [u64; NONTERMINALS], n: usize, k: usize)
-    requires { ⌜ (length (now edges) ≡ 48) × (length (now sets) ≡ 48) × (n ≤ 48) × (k < 48) ⌝ }
+    requires { ⌜ (length (now edges) ≡ nonterminalsLimit) × (length (now sets) ≡ nonterminalsLimit) × (n ≤ nonterminalsLimit) × (k < nonterminalsLimit) ⌝ }
     ensures edges { λ r. ⌜ Turned k (now (edges .entry)) (now (edges .entry)) (now (edges .exit)) n ⌝ }
     ensures sets { λ r. ⌜ Turned k (now (edges .entry)) (now (sets .entry)) (now (sets .exit)) n ⌝ }
 {
@@ -76,7 +77,7 @@ fn spread_by(edges: &mut [u64; NONTERMINALS], sets: &mut [u64; NONTERMINALS], n:
 
 // The edges closed, and the sets spread along them. Only nonterminals that some edge goes to can pass anything on.
 pub fn spread(edges: &mut [u64; NONTERMINALS], sets: &mut [u64; NONTERMINALS], n: usize)
-    requires { ⌜ (length (now edges) ≡ 48) × (length (now sets) ≡ 48) × (n ≤ 48) ⌝ }
+    requires { ⌜ (length (now edges) ≡ nonterminalsLimit) × (length (now sets) ≡ nonterminalsLimit) × (n ≤ nonterminalsLimit) ⌝ }
     ensures { λ r. ⌜ Spreads n (now (edges .entry)) (now (sets .entry)) (now (edges .exit)) (now (sets .exit)) ⌝ }
 {
     let used = union_of(edges, n);

@@ -8,6 +8,7 @@ use outline::left_of;
 use token_set::TokenSet;
 ghost use mathlib.Core.Path.{_≡_};
 ghost use lib.ListN.{length};
+ghost use Rattle.meaning.specs.Limits.{productionsLimit};
 ghost use Rattle.outline.specs.Images.{Image};
 ghost use Rattle.set_words.specs.Views.{members};
 ghost use Rattle.set_words.specs.Growth.{SetsTo};
@@ -21,7 +22,7 @@ pub fn all_starts(
     follow: &[u64; NONTERMINALS],
     sets: &mut [u64; PRODUCTIONS],
 )
-    requires { ⌜ Image (now rows) count × (length (now sets) ≡ 128) ⌝ }
+    requires { ⌜ Image (now rows) count × (length (now sets) ≡ productionsLimit) ⌝ }
     ensures { λ r. ⌜ SetsTo (startsBy (members (null .0)) (now (first .entry)) (now (follow .entry)) (now (rows .entry))) count (now (sets .exit)) ⌝ }
 {
     let mut k: usize = 0;

@@ -9,6 +9,7 @@ use limits::PRODUCTIONS;
 use limits::ROWS;
 ghost use mathlib.Core.Path.{_≡_};
 ghost use Prim.Native.Nat.{_<_, _≤_};
+ghost use Rattle.meaning.specs.Limits.{nonterminalsLimit};
 ghost use Rattle.meaning.specs.Grammar.{Grammar, nonterminalCount};
 ghost use Rattle.outline.specs.Images.{Image, ImageOf};
 ghost use Rattle.set_words.specs.Views.{rightBy};
@@ -29,7 +30,7 @@ pub fn analyse(
     start: u8,
     sets: &mut [u64; PRODUCTIONS],
 ) -> Analysis
-    requires { ⌜ Image (now rows) count × (nonterminals ≤ 48) × (start < 48) × SetsTo (rightBy (now rows)) count (now sets) ⌝ }
+    requires { ⌜ Image (now rows) count × (nonterminals ≤ nonterminalsLimit) × (start < nonterminalsLimit) × SetsTo (rightBy (now rows)) count (now sets) ⌝ }
     ensures { λ r. ⌜ ((g : Grammar) → ImageOf (now (rows .entry)) count g → nonterminals ≡ nonterminalCount g → start ≡ g .start
         → Analysed g (r .number) (r .index) (now (sets .exit))) ⌝ }
 {

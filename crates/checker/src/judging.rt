@@ -1,6 +1,8 @@
 // A table judged: its fields, then refusals 11 to 13.
-ghost use mathlib.Core.Path.{_≡_};
+ghost use Rattle.meaning.specs.Limits.{nonterminalsLimit, productionsLimit};
 ghost use lib.ListN.{length};
+ghost use mathlib.Core.Path.{_≡_};
+ghost use Rattle.outline.specs.Images.{rowsLength};
 ghost use Rattle.checker.specs.Judging.{Judges};
 use checker_grammar::Judged;
 use limits::NONTERMINALS;
@@ -18,7 +20,7 @@ pub fn judge_table(
     offsets: &mut [u32; PRODUCTIONS],
     sets: &mut [u64; PRODUCTIONS],
 ) -> Judged
-    requires { ⌜ (length (now inherited) ≡ 48) × (length (now synthesized) ≡ 48) × (length (now rows) ≡ 2048) × (length (now offsets) ≡ 128) × (length (now sets) ≡ 128) ⌝ }
+    requires { ⌜ (length (now inherited) ≡ nonterminalsLimit) × (length (now synthesized) ≡ nonterminalsLimit) × (length (now rows) ≡ rowsLength) × (length (now offsets) ≡ productionsLimit) × (length (now sets) ≡ productionsLimit) ⌝ }
     ensures { λ r. ⌜ Judges (now (table .entry)) (now (inherited .exit)) (now (synthesized .exit)) (now (rows .exit)) (now (offsets .exit)) (now (sets .exit)) r ⌝ }
 {
     match table_read::read_table(table, inherited, synthesized, rows, offsets, sets) {

@@ -6,6 +6,7 @@ use mathlib.Core.Bool.{Bool}
 use mathlib.Core.Option.{Option, none, some}
 use mathlib.Core.List.{List, reverse}
 use lib.ListN.{getD, length, length-reverse}
+use Rattle.meaning.specs.Limits.{nonterminalsLimit}
 use Rattle.meaning.specs.Base.{countFrom}
 use Rattle.meaning.specs.Grammar.{Grammar, nonterminalCount}
 use Rattle.meaning.specs.Table.{State}
@@ -71,10 +72,10 @@ module _ (t : List ℕ) (sizes : Sizes) (rows offsets : List ℕ) (x : Productio
   judged-by f h d e = judge-is s ∙ ap₂ (λ y z. verdictFrom s (otherwise y z)) d e
 
   module _ (n i : ℕ) (sets : List ℕ) (a : Analysed g n i sets) where
-    pub index-small : i < 48
+    pub index-small : i < nonterminalsLimit
     index-small = go (flaw g) known (a .index)
       where
-        go : (f : Finding) → Known f → i ≡ indexOf f → i < 48
+        go : (f : Finding) → Known f → i ≡ indexOf f → i < nonterminalsLimit
         go fine u e = omega arith
         go (useless m) u e = omega (arith, x .rowsOf .narrow)
         go (recursive m) u e = omega (arith, x .rowsOf .narrow)

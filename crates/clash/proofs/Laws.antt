@@ -10,22 +10,25 @@ use lib.Dec.{T, eqb}
 use lib.ListN.{getD, length, take, drop}
 use Rattle.meaning.specs.Base.{all}
 use lib.IntN.{ℤ}
+use Rattle.meaning.specs.Limits.{attributesLimit}
 use Rattle.meaning.specs.Grammar.{Production, productionAt}
 use Rattle.meaning.specs.Sets.{has, singleton}
 use Rattle.meaning.specs.Decide.{meet}
 use Rattle.meaning.specs.Differences.{constrained, matrixOf, closed, noneNegative, solvable}
 use Rattle.theory_sets.specs.Intervals.{entry}
+use Rattle.theory_sets.specs.TokenSets.{single-is}
 use Rattle.token_set.specs.SetBits.{setOf}
 use Rattle.outline.specs.Images.{leftAt}
 use Rattle.set_words.specs.Views.{members}
-use Rattle.set_words.specs.Growth.{none-in, single-is}
+use Rattle.set_words.specs.Growth.{none-in}
 use Rattle.analysis.specs.Numbers.{Clear, clear-none}
 use Rattle.clash_conditions.specs.EntryConditions.{atEntry, rankBy, raised, lowered, Stretch}
 use Rattle.clash_intervals.specs.Intervals.{leaveValues}
 use Rattle.clash_rivals.specs.Rivals.{startTogether, rival, NextRival, rival-starts, rival-values, no-rival}
 use Rattle.outline.specs.Outline.{grammarIn}
 use Rattle.clash.specs.Together.{enterTogether, later-free, earlier-free, rank-most, matrix-solvable, ranges-together, compared-together}
-use Rattle.clash_conditions.specs.Walk.{afterAll, from-on}
+use Rattle.clash_conditions.specs.Walk.{afterAll}
+use Rattle.theory_base.specs.Members.{from-on}
 use Rattle.clash.specs.Placing.{Placed}
 use Rattle.clash.specs.Clashing.{Kept, KeptTo, Given, given-place, Meeting, Seen, FirstRival, clashIn, enterIn, clash-apart, clash-met, both-kept, unmet-clear}
 
@@ -63,7 +66,7 @@ rank-small p e = omega (arith, rank-most (atEntry (p .conditions)) 0 (omega arit
 -- where one compares
 pub differences-together :
     (p q : Production) {first second : ℕ} {r : Bool} → first ≡ afterAll rankBy p 0 → second ≡ afterAll rankBy q 0 → 2 < first + second
-    → r ≡ solvable 8 (atEntry (p .conditions) ++ atEntry (q .conditions)) → r ≡ enterTogether p q
+    → r ≡ solvable attributesLimit (atEntry (p .conditions) ++ atEntry (q .conditions)) → r ≡ enterTogether p q
 differences-together p q a b sum e =
     let l = rank-small p a in
     let m = rank-small q b in
@@ -113,8 +116,8 @@ module _
 
 -- by the matrix
 pub closed-solvable :
-    (p q : Production) {m₁ m : List ℤ} {r : Bool} → m₁ ≡ afterAll constrained p (matrixOf 8 []) → m ≡ afterAll constrained q m₁ → T (all (entry 8) (atEntry (p .conditions))) → T (all (entry 8) (atEntry (q .conditions)))
-    → r ≡ noneNegative (closed m) → r ≡ solvable 8 (atEntry (p .conditions) ++ atEntry (q .conditions))
+    (p q : Production) {m₁ m : List ℤ} {r : Bool} → m₁ ≡ afterAll constrained p (matrixOf attributesLimit []) → m ≡ afterAll constrained q m₁ → T (all (entry attributesLimit) (atEntry (p .conditions))) → T (all (entry attributesLimit) (atEntry (q .conditions)))
+    → r ≡ noneNegative (closed m) → r ≡ solvable attributesLimit (atEntry (p .conditions) ++ atEntry (q .conditions))
 closed-solvable p q x y f k e = e ∙ ap (λ z. noneNegative (closed z)) (y ∙ ap (afterAll constrained q) x) ∙ matrix-solvable (atEntry (p .conditions)) (atEntry (q .conditions)) f k
 
 -- ---- a left side whose sets meet

@@ -10,6 +10,7 @@ use lib.Dec.{T, eqb, eqb-refl}
 use lib.ListN.{getD, length, replicate, set, length-set, length-replicate}
 use lib.Seq.{getD-set-same, getD-set-other}
 use lib.Bits.{bitOr}
+use Rattle.meaning.specs.Limits.{attributesLimit, nonterminalsLimit, productionsLimit}
 use Rattle.meaning.specs.Base.{all, isEmpty}
 use Rattle.meaning.specs.Grammar.{Production, Grammar, productionAt, inh, nonterminal}
 use Rattle.meaning.specs.Layout.{Bytes}
@@ -29,7 +30,7 @@ use Rattle.analysis.specs.Numbers.{Clear, clear-any, any-count, count-any}
 use Rattle.clash_conditions.specs.EntryConditions.{rankBy, raiseBy, lowerBy, lowest, highest}
 use Rattle.clash_conditions.specs.Walk.{afterAll}
 use Rattle.clash_rivals.specs.Rivals.{startTogether, NextRival, start-same, start-tells}
-use Rattle.clash.specs.Kept.{Own, Stored, stored-own, stored-other}
+use Rattle.clash.specs.Kept.{Own, Stored, stored-own, stored-other, boundsLength}
 use Rattle.clash.specs.Together.{enterTogether, later-free}
 use Rattle.clash.specs.Placing.{Placed, placed-at}
 
@@ -45,8 +46,8 @@ pub record Kept (t lows highs ranks : List ℕ) (p : ℕ) : Type 0 where
 
 -- that of production p added, and nothing else
 pub record Keeps (t : List ℕ) (p : ℕ) (lows₀ highs₀ ranks₀ lows highs ranks : List ℕ) : Type 0 where
-  pub low : Stored 8 (afterAll raiseBy (productionAt (grammarIn t) p) lowest) p lows₀ lows
-  pub high : Stored 8 (afterAll lowerBy (productionAt (grammarIn t) p) highest) p highs₀ highs
+  pub low : Stored attributesLimit (afterAll raiseBy (productionAt (grammarIn t) p) lowest) p lows₀ lows
+  pub high : Stored attributesLimit (afterAll lowerBy (productionAt (grammarIn t) p) highest) p highs₀ highs
   pub rank : ranks ≡ set ranks₀ p (afterAll rankBy (productionAt (grammarIn t) p) 0)
 
 pub record KeepsIf (wanted : Bool) (t : List ℕ) (p : ℕ) (lows₀ highs₀ ranks₀ lows highs ranks : List ℕ) : Type 0 where
@@ -55,18 +56,18 @@ pub record KeepsIf (wanted : Bool) (t : List ℕ) (p : ℕ) (lows₀ highs₀ ra
 
 -- that of the productions before k whose left side is in a set
 pub record KeptTo (t rows : List ℕ) (met : ℕ) (lows highs ranks : List ℕ) (k : ℕ) : Type 0 where
-  pub lows-all : length lows ≡ 1024
-  pub highs-all : length highs ≡ 1024
-  pub ranks-all : length ranks ≡ 128
+  pub lows-all : length lows ≡ boundsLength
+  pub highs-all : length highs ≡ boundsLength
+  pub ranks-all : length ranks ≡ productionsLimit
   pub each : (p : ℕ) → p < k → T (members met (leftAt rows p)) → Kept t lows highs ranks p
 
 module _ {t rows : List ℕ} {met : ℕ} where
-  pub kept-none : KeptTo t rows met (replicate 1024 0) (replicate 1024 0) (replicate 128 0) 0
+  pub kept-none : KeptTo t rows met (replicate boundsLength 0) (replicate boundsLength 0) (replicate productionsLimit 0) 0
   kept-none =
       let none : ℕ = 0 in
-      record { lows-all = length-replicate 1024 none; highs-all = length-replicate 1024 none; ranks-all = length-replicate 128 none; each = λ p l. absurd (omega arith) }
+      record { lows-all = length-replicate boundsLength none; highs-all = length-replicate boundsLength none; ranks-all = length-replicate productionsLimit none; each = λ p l. absurd (omega arith) }
 
-  kept-more : {k : ℕ} {lows₀ highs₀ ranks₀ lows highs ranks : List ℕ} → k < 128 → KeptTo t rows met lows₀ highs₀ ranks₀ k → Keeps t k lows₀ highs₀ ranks₀ lows highs ranks → KeptTo t rows met lows highs ranks (k + 1)
+  kept-more : {k : ℕ} {lows₀ highs₀ ranks₀ lows highs ranks : List ℕ} → k < productionsLimit → KeptTo t rows met lows₀ highs₀ ranks₀ k → Keeps t k lows₀ highs₀ ranks₀ lows highs ranks → KeptTo t rows met lows highs ranks (k + 1)
   kept-more {k} {ranks₀ = ranks₀} {lows = lows} {highs = highs} {ranks = ranks} l o n = record {
     lows-all = n .low .size ∙ o .lows-all;
     highs-all = n .high .size ∙ o .highs-all;
@@ -91,7 +92,7 @@ module _ {t rows : List ℕ} {met : ℕ} where
       go p m w (no e) = o .each p (omega arith) w
 
   pub kept-next :
-      {k : ℕ} {lows₀ highs₀ ranks₀ lows highs ranks : List ℕ} → k < 128 → KeptTo t rows met lows₀ highs₀ ranks₀ k → (wanted : Bool) → wanted ≡ members met (leftAt rows k)
+      {k : ℕ} {lows₀ highs₀ ranks₀ lows highs ranks : List ℕ} → k < productionsLimit → KeptTo t rows met lows₀ highs₀ ranks₀ k → (wanted : Bool) → wanted ≡ members met (leftAt rows k)
       → KeepsIf wanted t k lows₀ highs₀ ranks₀ lows highs ranks → KeptTo t rows met lows highs ranks (k + 1)
   kept-next l o true e n = kept-more l o (n .taken refl)
   kept-next {k} {lows₀} {highs₀} {lows = lows} {highs = highs} {ranks = ranks} l o false e n =
@@ -169,15 +170,15 @@ module _ (t : List ℕ) where
 
 -- ---- what the productions of each left side have had so far
 pub record Seen (rows sets : List ℕ) (k : ℕ) (seen : List ℕ) : Type 0 where
-  pub size : length seen ≡ 48
+  pub size : length seen ≡ nonterminalsLimit
   pub has : (p : ℕ) → p < k → (u : ℕ) → T (members (getD sets p 0) u) → T (sees seen u (leftAt rows p))
   pub only : (a u : ℕ) → T (sees seen u a) → (p : ℕ) × (p < k) × (leftAt rows p ≡ a) × T (members (getD sets p 0) u)
 
 module _ (rows sets : List ℕ) where
-  pub seen-none : Seen rows sets 0 (replicate 48 0)
-  seen-none = record { size = refl; has = λ p l. absurd (omega arith); only = λ a u h. absurd (zeros-none 48 u a h) }
+  pub seen-none : Seen rows sets 0 (replicate nonterminalsLimit 0)
+  seen-none = record { size = refl; has = λ p l. absurd (omega arith); only = λ a u h. absurd (zeros-none nonterminalsLimit u a h) }
 
-  pub seen-next : (k : ℕ) (seen : List ℕ) → leftAt rows k < 48 → Seen rows sets k seen → Seen rows sets (k + 1) (set seen (leftAt rows k) (bitOr (getD seen (leftAt rows k) 0) (getD sets k 0)))
+  pub seen-next : (k : ℕ) (seen : List ℕ) → leftAt rows k < nonterminalsLimit → Seen rows sets k seen → Seen rows sets (k + 1) (set seen (leftAt rows k) (bitOr (getD seen (leftAt rows k) 0) (getD sets k 0)))
   seen-next k seen l s =
       record {
         size = length-set seen (leftAt rows k) (bitOr (getD seen (leftAt rows k) 0) (getD sets k 0)) ∙ s .size;

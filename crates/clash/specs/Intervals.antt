@@ -8,12 +8,13 @@ use mathlib.Core.List.{List, [], _∷_, _++_}
 use mathlib.Core.Option.{none}
 use lib.Dec.{T, eqb, leb, eqb→eq, eqb-refl, leb→le, le→leb, T-not, not-T}
 use lib.IntN.{ℤ, pos, negsuc}
-use lib.ListN.{getD, length}
+use lib.ListN.{getD}
 use lib.Signed.{leZ}
+use Rattle.meaning.specs.Limits.{attributesLimit}
 use Rattle.meaning.specs.Base.{all, countFrom}
 use Rattle.meaning.specs.Grammar.{Condition, range, atmost}
 use Rattle.meaning.specs.Decide.{compatible, pairwise}
-use Rattle.theory_base.specs.Members.{and, both, or-cases, or-left, or-right, same-truth}
+use Rattle.theory_base.specs.Members.{and, both, or-cases, or-left, or-right, same-truth, at-all}
 use Rattle.theory_sets.specs.Tests.{decide, all-at, all-map, all-map₂}
 use Rattle.theory_sets.specs.Intervals.{onRange, entry, entered}
 use Rattle.meaning.specs.Rules.{lowestConstant, highestConstant, fourBytes}
@@ -21,9 +22,6 @@ use Rattle.clash_conditions.specs.BoundWords.{biased}
 use Rattle.analysis.specs.Numbers.{all-count, count-all}
 
 -- a test that passes at each place passes of all
-all-intro : {A : Type 0} (f : A → Bool) (xs : List A) (d : A) → ((i : ℕ) → i < length xs → T (f (getD xs i d))) → T (all f xs)
-all-intro f [] d k = tt
-all-intro f (x ∷ xs) d k = and (f x) (all f xs) (k 0 (omega arith)) (all-intro f xs d (λ i l. k (suc i) (omega arith)))
 
 -- the greatest low end of attribute a's ranges, and the least high end
 unfoldable pub lowEnd : ℕ → List (Condition ℕ) → ℕ
@@ -199,20 +197,20 @@ module _ (k : ℕ) (cs : List (Condition ℕ)) (fits : T (all (entry k) cs)) whe
 
     agreeing : T (pairwise cs)
     agreeing =
-        all-intro (λ c. all (compatible c) cs) cs (atmost 0 0 none)
-        (λ i l. all-intro (compatible (getD cs i (atmost 0 0 none))) cs (atmost 0 0 none)
+        at-all (λ c. all (compatible c) cs) (atmost 0 0 none) cs
+        (λ i l. at-all (compatible (getD cs i (atmost 0 0 none))) (atmost 0 0 none) cs
         (λ j m. pair (getD cs i (atmost 0 0 none)) (getD cs j (atmost 0 0 none)) (all-at (entry k) cs i (atmost 0 0 none) l fits) (all-at (entry k) cs j (atmost 0 0 none) m fits)
         (λ a. all-at (onRange a (λ x y. leb (biased x) (lowEnd a cs))) cs i (atmost 0 0 none) l (low-each a (lowEnd a cs) cs (omega arith)))
         (λ a. all-at (onRange a (λ x y. leb (highEnd a cs) (biased y))) cs i (atmost 0 0 none) l (high-each a (highEnd a cs) cs (omega arith)))
         (λ a. all-at (onRange a (λ x y. leb (biased x) (lowEnd a cs))) cs j (atmost 0 0 none) m (low-each a (lowEnd a cs) cs (omega arith)))
         (λ a. all-at (onRange a (λ x y. leb (highEnd a cs) (biased y))) cs j (atmost 0 0 none) m (high-each a (highEnd a cs) cs (omega arith)))))
 
-  pub pairwise-is : k ≤ 8 → pairwise cs ≡ all (λ a. leb (lowEnd (suc a) cs) (highEnd (suc a) cs)) (countFrom 0 8)
+  pub pairwise-is : k ≤ attributesLimit → pairwise cs ≡ all (λ a. leb (lowEnd (suc a) cs) (highEnd (suc a) cs)) (countFrom 0 attributesLimit)
   pairwise-is few =
-      same-truth (pairwise cs) (all (λ a. leb (lowEnd (suc a) cs) (highEnd (suc a) cs)) (countFrom 0 8))
-      (λ t. all-count (λ a. leb (lowEnd (suc a) cs) (highEnd (suc a) cs)) 0 8 (λ a l m. le→leb (lowEnd (suc a) cs) (highEnd (suc a) cs) (met (suc a) t)))
+      same-truth (pairwise cs) (all (λ a. leb (lowEnd (suc a) cs) (highEnd (suc a) cs)) (countFrom 0 attributesLimit))
+      (λ t. all-count (λ a. leb (lowEnd (suc a) cs) (highEnd (suc a) cs)) 0 attributesLimit (λ a l m. le→leb (lowEnd (suc a) cs) (highEnd (suc a) cs) (met (suc a) t)))
       (λ t. agreeing (λ a p q. back t a p q))
     where
-      back : T (all (λ a. leb (lowEnd (suc a) cs) (highEnd (suc a) cs)) (countFrom 0 8)) → (a : ℕ) → 0 < a → a ≤ k → lowEnd a cs ≤ highEnd a cs
+      back : T (all (λ a. leb (lowEnd (suc a) cs) (highEnd (suc a) cs)) (countFrom 0 attributesLimit)) → (a : ℕ) → 0 < a → a ≤ k → lowEnd a cs ≤ highEnd a cs
       back t zero p q = absurd (omega arith)
-      back t (suc a) p q = leb→le (lowEnd (suc a) cs) (highEnd (suc a) cs) (count-all (λ b. leb (lowEnd (suc b) cs) (highEnd (suc b) cs)) 0 8 t a (omega arith) (omega arith))
+      back t (suc a) p q = leb→le (lowEnd (suc a) cs) (highEnd (suc a) cs) (count-all (λ b. leb (lowEnd (suc b) cs) (highEnd (suc b) cs)) 0 attributesLimit t a (omega arith) (omega arith))

@@ -6,6 +6,7 @@ use mathlib.Core.Logic.{inl, inr}
 use mathlib.Core.List.{List, [], _∷_, reverse}
 use lib.Dec.{T}
 use lib.ListN.{getD, length, drop}
+use Rattle.meaning.specs.Limits.{attributesLimit}
 use Rattle.meaning.specs.Base.{all}
 use Rattle.meaning.specs.Grammar.{Grammar, nonterminal, productionAt, inh, noCounts}
 use Rattle.meaning.specs.Derivation.{Listed}
@@ -31,22 +32,22 @@ bytes-of (x ∷ xs) h b (inr i) = bytes-of xs (λ k. h (suc k)) b i
 
 -- entry conditions read inherited attributes, of which there are at most 8
 module _ (g : Grammar) (formed : WellFormed g) (p : ℕ) (l : Listed g p) where
-  inherited-few : inh g (nonterminal (productionAt g p .left)) ≤ 8
+  inherited-few : inh g (nonterminal (productionAt g p .left)) ≤ attributesLimit
   inherited-few =
       let m = well-formed-at g formed p l .left in
       let k = formed .attributes (getD (g .counts) (productionAt g p .left) noCounts) (getD-in (g .counts) (productionAt g p .left) noCounts m) in
       omega arith
 
-  fits-at : T (all (entry 8) (atEntry (productionAt g p .conditions)))
+  fits-at : T (all (entry attributesLimit) (atEntry (productionAt g p .conditions)))
   fits-at =
-      subst (λ cs. T (all (entry 8) cs)) (entry-is (productionAt g p))
-      (all-map (entry (inh g (nonterminal (productionAt g p .left)))) (entry 8) (entry-wider _ 8 inherited-few) (entryConditions (productionAt g p)) (entries-fit g formed p l))
+      subst (λ cs. T (all (entry attributesLimit) cs)) (entry-is (productionAt g p))
+      (all-map (entry (inh g (nonterminal (productionAt g p .left)))) (entry attributesLimit) (entry-wider _ attributesLimit inherited-few) (entryConditions (productionAt g p)) (entries-fit g formed p l))
 
 -- production p of a table stands at its offset
 pub record Placed (t offsets : List ℕ) (p : ℕ) : Type 0 where
   pub inside : getD offsets p 0 ≤ length t
   pub stretch : Stretch (drop (getD offsets p 0) t) (productionAt (grammarIn t) p)
-  pub few : inh (grammarIn t) (nonterminal (productionAt (grammarIn t) p .left)) ≤ 8
+  pub few : inh (grammarIn t) (nonterminal (productionAt (grammarIn t) p .left)) ≤ attributesLimit
   pub fits : T (all (entry (inh (grammarIn t) (nonterminal (productionAt (grammarIn t) p .left)))) (entryConditions (productionAt (grammarIn t) p)))
 
 module _ {t rows offsets : List ℕ} {count : ℕ} (x : Productions t rows offsets count) (bytes : Bytes t) (p : ℕ) (l : p < count) where
@@ -75,7 +76,7 @@ module _ {t rows offsets : List ℕ} {count : ℕ} (x : Productions t rows offse
         own = y .own;
         isHere = y .isHere;
         over = y .over;
-        fits = subst (λ q. T (all (entry 8) (atEntry (q .conditions)))) production-is (fits-at (grammarIn t) (x .rowsOf .sound) p listed);
+        fits = subst (λ q. T (all (entry attributesLimit) (atEntry (q .conditions)))) production-is (fits-at (grammarIn t) (x .rowsOf .sound) p listed);
       }
 
   pub placed-at : Placed t offsets p

@@ -10,6 +10,7 @@ use borrow.Author.Tests.{eq-eqb, ne-eqb}
 use lib.Dec.{T, eqb, leb}
 use lib.ListN.{getD, length, set, length-set, getD-replicate}
 use lib.Seq.{getD-set-same, getD-set-other}
+use Rattle.meaning.specs.Limits.{attributesLimit}
 use Rattle.meaning.specs.Base.{In, all, isEmpty}
 use Rattle.meaning.specs.Grammar.{Condition, range, atmost, Production}
 use Rattle.meaning.specs.Differences.{constrained, matrixOf, closed, noneNegative, solvable}
@@ -27,13 +28,13 @@ use Rattle.clash_conditions.specs.EntryConditions.{atEntry, entry-is, after, ra
 
 -- 01: "unless both have entry conditions and no values of the inherited attributes satisfy both". (Attributes that no condition reads play no part, so they are taken as 8)
 unfoldable pub enterTogether : Production → Production → Bool
-enterTogether p q = isEmpty (entryConditions p) || isEmpty (entryConditions q) || satisfiable 8 (entryConditions p ++ entryConditions q)
+enterTogether p q = isEmpty (entryConditions p) || isEmpty (entryConditions q) || satisfiable attributesLimit (entryConditions p ++ entryConditions q)
 
 -- ---- the ends after some conditions
 
-module _ (a : ℕ) (few : a < 8) where
+module _ (a : ℕ) (few : a < attributesLimit) where
   -- the end of one attribute changed
-  changed : (f : ℕ → ℕ) (ends : List ℕ) (b : ℕ) → 0 < b → length ends ≡ 8 → getD (set ends (b - 1) (f (getD ends (b - 1) 0))) a 0 ≡ (elim (eqb (suc a) b) [ true ↦ f (getD ends a 0) | false ↦ getD ends a 0 ])
+  changed : (f : ℕ → ℕ) (ends : List ℕ) (b : ℕ) → 0 < b → length ends ≡ attributesLimit → getD (set ends (b - 1) (f (getD ends (b - 1) 0))) a 0 ≡ (elim (eqb (suc a) b) [ true ↦ f (getD ends a 0) | false ↦ getD ends a 0 ])
   changed f ends b p e = go (ℕ-discrete (suc a) b)
     where
       go : Dec (suc a ≡ b) → getD (set ends (b - 1) (f (getD ends (b - 1) 0))) a 0 ≡ (elim (eqb (suc a) b) [ true ↦ f (getD ends a 0) | false ↦ getD ends a 0 ])
@@ -42,28 +43,28 @@ module _ (a : ℕ) (few : a < 8) where
           rw (eq-eqb (suc a) b q, i, getD-set-same ends a (f (getD ends a 0)) 0 (omega arith)) refl
       go (no n) = rw (ne-eqb (suc a) b n, getD-set-other ends (b - 1) a (f (getD ends (b - 1) 0)) 0 (λ q. n (omega arith))) refl
 
-  low-at : (cs : List (Condition ℕ)) → T (all (entry 8) cs) → (ends : List ℕ) → length ends ≡ 8 → getD (raised cs ends) a 0 ≡ max (getD ends a 0) (lowEnd (suc a) cs)
+  low-at : (cs : List (Condition ℕ)) → T (all (entry attributesLimit) cs) → (ends : List ℕ) → length ends ≡ attributesLimit → getD (raised cs ends) a 0 ≡ max (getD ends a 0) (lowEnd (suc a) cs)
   unfolding raised lowEnd
   low-at [] f ends e = omega arith
   low-at (range b l h ∷ cs) f ends e =
-      let u = both (entry 8 (range b l h)) (all (entry 8) cs) f in
+      let u = both (entry attributesLimit (range b l h)) (all (entry attributesLimit) cs) f in
       let v : ℕ = max (biased l) (getD ends (b - 1) 0) in
       low-at cs (u .1) (set ends (b - 1) v) (length-set ends (b - 1) v ∙ e)
-      ∙ ap (λ z. max z (lowEnd (suc a) cs)) (changed (max (biased l)) ends b (entered 8 b l h (u .0) .from) e)
+      ∙ ap (λ z. max z (lowEnd (suc a) cs)) (changed (max (biased l)) ends b (entered attributesLimit b l h (u .0) .from) e)
       ∙ go (eqb (suc a) b)
     where
       go : (c : Bool) → max (elim c [ true ↦ max (biased l) (getD ends a 0) | false ↦ getD ends a 0 ]) (lowEnd (suc a) cs) ≡ max (getD ends a 0) (elim c [ true ↦ max (biased l) (lowEnd (suc a) cs) | false ↦ lowEnd (suc a) cs ])
       go true = omega arith
       go false = refl
-  low-at (atmost b c d ∷ cs) f ends e = low-at cs (both (entry 8 (atmost b c d)) (all (entry 8) cs) f .1) ends e
+  low-at (atmost b c d ∷ cs) f ends e = low-at cs (both (entry attributesLimit (atmost b c d)) (all (entry attributesLimit) cs) f .1) ends e
 
-  high-at : (cs : List (Condition ℕ)) → T (all (entry 8) cs) → (ends : List ℕ) → length ends ≡ 8 → getD ends a 0 ≤ 4294967295 → getD (lowered cs ends) a 0 ≡ min (getD ends a 0) (highEnd (suc a) cs)
+  high-at : (cs : List (Condition ℕ)) → T (all (entry attributesLimit) cs) → (ends : List ℕ) → length ends ≡ attributesLimit → getD ends a 0 ≤ 4294967295 → getD (lowered cs ends) a 0 ≡ min (getD ends a 0) (highEnd (suc a) cs)
   unfolding lowered highEnd
   high-at [] f ends e w = omega arith
   high-at (range b l h ∷ cs) f ends e w =
-      let u = both (entry 8 (range b l h)) (all (entry 8) cs) f in
+      let u = both (entry attributesLimit (range b l h)) (all (entry attributesLimit) cs) f in
       let v : ℕ = min (biased h) (getD ends (b - 1) 0) in
-      let c = changed (min (biased h)) ends b (entered 8 b l h (u .0) .from) e in
+      let c = changed (min (biased h)) ends b (entered attributesLimit b l h (u .0) .from) e in
       high-at cs (u .1) (set ends (b - 1) v) (length-set ends (b - 1) v ∙ e) (small (eqb (suc a) b) c)
       ∙ ap (λ z. min z (highEnd (suc a) cs)) c
       ∙ go (eqb (suc a) b)
@@ -75,32 +76,32 @@ module _ (a : ℕ) (few : a < 8) where
       go : (c : Bool) → min (elim c [ true ↦ min (biased h) (getD ends a 0) | false ↦ getD ends a 0 ]) (highEnd (suc a) cs) ≡ min (getD ends a 0) (elim c [ true ↦ min (biased h) (highEnd (suc a) cs) | false ↦ highEnd (suc a) cs ])
       go true = omega arith
       go false = refl
-  high-at (atmost b c d ∷ cs) f ends e w = high-at cs (both (entry 8 (atmost b c d)) (all (entry 8) cs) f .1) ends e w
+  high-at (atmost b c d ∷ cs) f ends e w = high-at cs (both (entry attributesLimit (atmost b c d)) (all (entry attributesLimit) cs) f .1) ends e w
 
 -- ---- the conditions of two productions, by the ends that are kept of each
 
-module _ (cs ds : List (Condition ℕ)) (f : T (all (entry 8) cs)) (k : T (all (entry 8) ds)) {lows highs : List ℕ} {p q : ℕ}
+module _ (cs ds : List (Condition ℕ)) (f : T (all (entry attributesLimit) cs)) (k : T (all (entry attributesLimit) ds)) {lows highs : List ℕ} {p q : ℕ}
     (lp : Own (raised cs lowest) lows p) (lq : Own (raised ds lowest) lows q) (hp : Own (lowered cs highest) highs p) (hq : Own (lowered ds highest) highs q) where
   pairwise-ends : leaveValues lows highs p q ≡ pairwise (cs ++ ds)
   unfolding leaveValues
   pairwise-ends =
-      all-count-same (λ a. leb (max (getD lows (8 * p + a) 0) (getD lows (8 * q + a) 0)) (min (getD highs (8 * p + a) 0) (getD highs (8 * q + a) 0))) (λ a. leb (lowEnd (suc a) (cs ++ ds)) (highEnd (suc a) (cs ++ ds))) 8 each
-      ∙ sym (pairwise-is 8 (cs ++ ds) (all-append (entry 8) cs ds f k) (omega arith))
+      all-count-same (λ a. leb (max (getD lows (attributesLimit * p + a) 0) (getD lows (attributesLimit * q + a) 0)) (min (getD highs (attributesLimit * p + a) 0) (getD highs (attributesLimit * q + a) 0))) (λ a. leb (lowEnd (suc a) (cs ++ ds)) (highEnd (suc a) (cs ++ ds))) attributesLimit each
+      ∙ sym (pairwise-is attributesLimit (cs ++ ds) (all-append (entry attributesLimit) cs ds f k) (omega arith))
     where
-      low : (a : ℕ) → a < 8 → max (getD lows (8 * p + a) 0) (getD lows (8 * q + a) 0) ≡ lowEnd (suc a) (cs ++ ds)
+      low : (a : ℕ) → a < attributesLimit → max (getD lows (attributesLimit * p + a) 0) (getD lows (attributesLimit * q + a) 0) ≡ lowEnd (suc a) (cs ++ ds)
       low a l =
           let none : ℕ = 0 in
           ap₂ max (lp .at a l ∙ low-at a l cs f lowest refl) (lq .at a l ∙ low-at a l ds k lowest refl)
-          ∙ omega (arith, getD-replicate 8 a none 0 l, low-append (suc a) cs ds)
+          ∙ omega (arith, getD-replicate attributesLimit a none 0 l, low-append (suc a) cs ds)
 
-      high : (a : ℕ) → a < 8 → min (getD highs (8 * p + a) 0) (getD highs (8 * q + a) 0) ≡ highEnd (suc a) (cs ++ ds)
+      high : (a : ℕ) → a < attributesLimit → min (getD highs (attributesLimit * p + a) 0) (getD highs (attributesLimit * q + a) 0) ≡ highEnd (suc a) (cs ++ ds)
       high a l =
           let full : ℕ = 4294967295 in
-          let s = getD-replicate 8 a full 0 l in
+          let s = getD-replicate attributesLimit a full 0 l in
           ap₂ min (hp .at a l ∙ high-at a l cs f highest refl (omega (arith, s))) (hq .at a l ∙ high-at a l ds k highest refl (omega (arith, s)))
           ∙ omega (arith, s, high-word (suc a) cs, high-word (suc a) ds, high-append (suc a) cs ds)
 
-      each : (a : ℕ) → a < 8 → leb (max (getD lows (8 * p + a) 0) (getD lows (8 * q + a) 0)) (min (getD highs (8 * p + a) 0) (getD highs (8 * q + a) 0)) ≡ leb (lowEnd (suc a) (cs ++ ds)) (highEnd (suc a) (cs ++ ds))
+      each : (a : ℕ) → a < attributesLimit → leb (max (getD lows (attributesLimit * p + a) 0) (getD lows (attributesLimit * q + a) 0)) (min (getD highs (attributesLimit * p + a) 0) (getD highs (attributesLimit * q + a) 0)) ≡ leb (lowEnd (suc a) (cs ++ ds)) (highEnd (suc a) (cs ++ ds))
       each a l = ap₂ leb (low a l) (high a l)
 
 -- ---- what there has been, by the rank of the conditions
@@ -180,9 +181,9 @@ in-onto x (c ∷ cs) es (inl (inl e)) = in-onto x cs (c ∷ es) (inr (inl e))
 in-onto x (c ∷ cs) es (inl (inr i)) = in-onto x cs (c ∷ es) (inl i)
 in-onto x (c ∷ cs) es (inr i) = in-onto x cs (c ∷ es) (inr (inr i))
 
-module _ (cs ds : List (Condition ℕ)) (f : T (all (entry 8) cs)) (k : T (all (entry 8) ds)) where
+module _ (cs ds : List (Condition ℕ)) (f : T (all (entry attributesLimit) cs)) (k : T (all (entry attributesLimit) ds)) where
   known : AllKnown (cs ++ ds)
-  known c i = entry-known 8 (omega arith) c (all-in (entry 8) (cs ++ ds) (all-append (entry 8) cs ds f k) c i)
+  known c i = entry-known attributesLimit (omega arith) c (all-in (entry attributesLimit) (cs ++ ds) (all-append (entry attributesLimit) cs ds f k) c i)
 
   into : (c : Condition ℕ) → In c (onto ds (onto cs [])) → In c (cs ++ ds)
   into c i = go (onto-in c ds (onto cs []) i)
@@ -202,10 +203,10 @@ module _ (cs ds : List (Condition ℕ)) (f : T (all (entry 8) cs)) (k : T (all (
       go (inl j) = in-onto c ds (onto cs []) (inr (in-onto c cs [] (inl j)))
       go (inr j) = in-onto c ds (onto cs []) (inl j)
 
-  pub matrix-solvable : noneNegative (closed (after constrained ds (after constrained cs (matrixOf 8 [])))) ≡ solvable 8 (cs ++ ds)
+  pub matrix-solvable : noneNegative (closed (after constrained ds (after constrained cs (matrixOf attributesLimit [])))) ≡ solvable attributesLimit (cs ++ ds)
   matrix-solvable =
-      ap (λ m. noneNegative (closed m)) (ap (after constrained ds) (matrix-onto 8 cs []) ∙ matrix-onto 8 ds (onto cs []))
-      ∙ sym (solvable-same 8 (omega arith) (cs ++ ds) (onto ds (onto cs [])) known into from)
+      ap (λ m. noneNegative (closed m)) (ap (after constrained ds) (matrix-onto attributesLimit cs []) ∙ matrix-onto attributesLimit ds (onto cs []))
+      ∙ sym (solvable-same attributesLimit (omega arith) (cs ++ ds) (onto ds (onto cs [])) known into from)
 
 -- ---- the answers of the test, by what it finds of the later production p and the earlier one q
 
@@ -216,30 +217,30 @@ module _ (p q : Production) where
   abbrev ofQ : List (Condition ℕ)
   ofQ = atEntry (q .conditions)
 
-  together-is : enterTogether p q ≡ (isEmpty ofP || isEmpty ofQ || satisfiable 8 (ofP ++ ofQ))
+  together-is : enterTogether p q ≡ (isEmpty ofP || isEmpty ofQ || satisfiable attributesLimit (ofP ++ ofQ))
   unfolding enterTogether
-  together-is = ap₂ (λ cs ds. isEmpty cs || isEmpty ds || satisfiable 8 (cs ++ ds)) (entry-is p) (entry-is q)
+  together-is = ap₂ (λ cs ds. isEmpty cs || isEmpty ds || satisfiable attributesLimit (cs ++ ds)) (entry-is p) (entry-is q)
 
   pub later-free : after rankBy ofP 0 ≡ 0 → true ≡ enterTogether p q
-  later-free e = sym (together-is ∙ ap (λ x. x || isEmpty ofQ || satisfiable 8 (ofP ++ ofQ)) (rank-none ofP e))
+  later-free e = sym (together-is ∙ ap (λ x. x || isEmpty ofQ || satisfiable attributesLimit (ofP ++ ofQ)) (rank-none ofP e))
 
   pub earlier-free : after rankBy ofQ 0 ≡ 0 → true ≡ enterTogether p q
-  earlier-free e = sym (together-is ∙ ap (λ x. isEmpty ofP || x || satisfiable 8 (ofP ++ ofQ)) (rank-none ofQ e) ∙ go (isEmpty ofP))
+  earlier-free e = sym (together-is ∙ ap (λ x. isEmpty ofP || x || satisfiable attributesLimit (ofP ++ ofQ)) (rank-none ofQ e) ∙ go (isEmpty ofP))
     where
-      go : (c : Bool) → (c || true || satisfiable 8 (ofP ++ ofQ)) ≡ true
+      go : (c : Bool) → (c || true || satisfiable attributesLimit (ofP ++ ofQ)) ≡ true
       go true = refl
       go false = refl
 
   module _ (d : 1 ≤ after rankBy ofP 0) (e : 1 ≤ after rankBy ofQ 0) where
-    both-have : enterTogether p q ≡ satisfiable 8 (ofP ++ ofQ)
-    both-have = together-is ∙ ap₂ (λ x y. x || y || satisfiable 8 (ofP ++ ofQ)) (rank-some ofP d) (rank-some ofQ e)
+    both-have : enterTogether p q ≡ satisfiable attributesLimit (ofP ++ ofQ)
+    both-have = together-is ∙ ap₂ (λ x y. x || y || satisfiable attributesLimit (ofP ++ ofQ)) (rank-some ofP d) (rank-some ofQ e)
 
     pub ranges-together :
-        T (all (entry 8) ofP) → T (all (entry 8) ofQ) → after rankBy ofP 0 + after rankBy ofQ 0 ≤ 2 → {lows highs : List ℕ} {i j : ℕ}
+        T (all (entry attributesLimit) ofP) → T (all (entry attributesLimit) ofQ) → after rankBy ofP 0 + after rankBy ofQ 0 ≤ 2 → {lows highs : List ℕ} {i j : ℕ}
         → Own (raised ofP lowest) lows i → Own (raised ofQ lowest) lows j → Own (lowered ofP highest) highs i → Own (lowered ofQ highest) highs j → leaveValues lows highs i j ≡ enterTogether p q
     ranges-together f k l lp lq hp hq =
         pairwise-ends ofP ofQ f k lp lq hp hq
-        ∙ sym (both-have ∙ ap (λ b. satisfiableBy b 8 (ofP ++ ofQ)) (both-ranges ofP ofQ (omega arith) (omega arith)))
+        ∙ sym (both-have ∙ ap (λ b. satisfiableBy b attributesLimit (ofP ++ ofQ)) (both-ranges ofP ofQ (omega arith) (omega arith)))
 
-    pub compared-together : 3 ≤ after rankBy ofP 0 + after rankBy ofQ 0 → solvable 8 (ofP ++ ofQ) ≡ enterTogether p q
-    compared-together l = sym (both-have ∙ ap (λ b. satisfiableBy b 8 (ofP ++ ofQ)) (one-compared ofP ofQ l))
+    pub compared-together : 3 ≤ after rankBy ofP 0 + after rankBy ofQ 0 → solvable attributesLimit (ofP ++ ofQ) ≡ enterTogether p q
+    compared-together l = sym (both-have ∙ ap (λ b. satisfiableBy b attributesLimit (ofP ++ ofQ)) (one-compared ofP ofQ l))

@@ -5,11 +5,12 @@ ghost use Prim.Native.Nat.{_<_};
 ghost use lib.ListN.{length};
 ghost use mathlib.Core.Bool.{not};
 ghost use lib.Dec.{eqb};
+ghost use Rattle.meaning.specs.Limits.{attributesLimit, productionsLimit};
 ghost use Rattle.meaning.specs.Grammar.{productionAt};
 ghost use Rattle.outline.specs.Outline.{grammarIn};
 ghost use Rattle.clash_conditions.specs.EntryConditions.{rankBy};
 ghost use Rattle.clash_conditions.specs.Walk.{afterAll};
-ghost use Rattle.clash.specs.Kept.{Stored};
+ghost use Rattle.clash.specs.Kept.{Stored, boundsLength};
 ghost use Rattle.clash.specs.Placing.{Placed};
 ghost use Rattle.clash.specs.Clashing.{KeepsIf};
 use limits::ATTRIBUTES;
@@ -18,19 +19,19 @@ use limits::PRODUCTIONS;
 
 // Production p's ends among those of all.
 fn store(ends: &mut [u32; BOUNDS], p: usize, own: &[u32; ATTRIBUTES])
-    requires { ⌜ (p < 128) × (length (now ends) ≡ 1024) ⌝ }
-    ensures { λ r. ⌜ Stored 8 (now (own .entry)) p (now (ends .entry)) (now (ends .exit)) ⌝ }
+    requires { ⌜ (p < productionsLimit) × (length (now ends) ≡ boundsLength) ⌝ }
+    ensures { λ r. ⌜ Stored attributesLimit (now (own .entry)) p (now (ends .entry)) (now (ends .exit)) ⌝ }
 {
     let mut a: usize = 0;
-    while a < 8 {
-        ends[8 * p + a] = own[a];
+    while a < ATTRIBUTES {
+        ends[ATTRIBUTES * p + a] = own[a];
         a += 1;
     }
 }
 
 // Whether production p has entry conditions.
 pub fn has_entry(table: &[u8], offsets: &[u32; PRODUCTIONS], p: usize) -> bool
-    requires { ⌜ (p < 128) × Placed (now table) (now offsets) p ⌝ }
+    requires { ⌜ (p < productionsLimit) × Placed (now table) (now offsets) p ⌝ }
     ensures { λ r. ⌜ r ≡ not (eqb (afterAll rankBy (productionAt (grammarIn (now (table .entry))) p) 0) 0) ⌝ }
 {
     let mut low = [0u32; ATTRIBUTES];
@@ -50,7 +51,7 @@ pub fn keep(
     highs: &mut [u32; BOUNDS],
     ranks: &mut [u8; PRODUCTIONS],
 )
-    requires { ⌜ (p < 128) × Placed (now table) (now offsets) p × (length (now lows) ≡ 1024) × (length (now highs) ≡ 1024) ⌝ }
+    requires { ⌜ (p < productionsLimit) × Placed (now table) (now offsets) p × (length (now lows) ≡ boundsLength) × (length (now highs) ≡ boundsLength) ⌝ }
     ensures { λ r. ⌜ KeepsIf wanted (now (table .entry)) p (now (lows .entry)) (now (highs .entry)) (now (ranks .entry)) (now (lows .exit)) (now (highs .exit)) (now (ranks .exit)) ⌝ }
 {
     if !wanted {

@@ -18,6 +18,7 @@ ghost use mathlib.Core.Bool.{_&&_};
 ghost use Prim.Native.Nat.{ℕ, _<_};
 ghost use lib.Dec.{eqb};
 ghost use lib.ListN.{getD};
+ghost use Rattle.meaning.specs.Limits.{productionsLimit};
 ghost use Rattle.meaning.specs.Decide as Decide;
 ghost use Rattle.meaning.specs.Decide.{meet};
 ghost use Rattle.token_set.specs.SetBits.{setOf};
@@ -38,7 +39,7 @@ fn first_rival(
     later: usize,
     seen: TokenSet,
 ) -> usize
-    requires { ⌜ later < 128 ⌝ }
+    requires { ⌜ later < productionsLimit ⌝ }
     ensures { λ r. ⌜ FirstRival (meet (setOf (seen .0)) (setOf (getD (now (sets .entry)) later 0))) (rival (now (rows .entry)) (now (sets .entry)) (now (lows .entry)) (now (highs .entry)) (now (ranks .entry)) later) later r ⌝ }
 {
     let set = sets[later];

@@ -1,12 +1,14 @@
 // Whether two rivals can be entered with the same values: where one of them compares, by the differences of both, read from the
 // table.
 use clash_entries::constrain_by;
+use limits::ATTRIBUTES;
 use limits::PRODUCTIONS;
 ghost use mathlib.Core.Path.{_≡_};
 ghost use mathlib.Core.Bool.{true};
 ghost use mathlib.Core.List.{_++_};
 ghost use Prim.Native.Nat.{_<_};
 ghost use lib.ListN.{getD};
+ghost use Rattle.meaning.specs.Limits.{attributesLimit, productionsLimit};
 ghost use Rattle.meaning.specs.Grammar.{productionAt};
 ghost use Rattle.meaning.specs.Differences.{solvable};
 ghost use Rattle.clash_conditions.specs.EntryConditions.{atEntry};
@@ -21,10 +23,10 @@ fn leaves_differences(
     later: usize,
     earlier: usize,
 ) -> bool
-    requires { ⌜ (later < 128) × (earlier < 128) × Placed (now table) (now offsets) later × Placed (now table) (now offsets) earlier ⌝ }
-    ensures { λ r. ⌜ r ≡ solvable 8 (atEntry (productionAt (grammarIn (now (table .entry))) later .conditions) ++ atEntry (productionAt (grammarIn (now (table .entry))) earlier .conditions)) ⌝ }
+    requires { ⌜ (later < productionsLimit) × (earlier < productionsLimit) × Placed (now table) (now offsets) later × Placed (now table) (now offsets) earlier ⌝ }
+    ensures { λ r. ⌜ r ≡ solvable attributesLimit (atEntry (productionAt (grammarIn (now (table .entry))) later .conditions) ++ atEntry (productionAt (grammarIn (now (table .entry))) earlier .conditions)) ⌝ }
 {
-    let mut m = clash_differences::start(8);
+    let mut m = clash_differences::start(ATTRIBUTES);
     let from = offsets[later] as usize;
     constrain_by(&table[from..], &mut m);
     let from = offsets[earlier] as usize;
@@ -41,8 +43,8 @@ pub fn enters_together(
     later: usize,
     earlier: usize,
 ) -> bool
-    requires own { ⌜ (later < 128) × Placed (now table) (now offsets) later × Ranked (now table) (now ranks) later ⌝ }
-    requires other { ⌜ (earlier < 128) × Placed (now table) (now offsets) earlier × Ranked (now table) (now ranks) earlier ⌝ }
+    requires own { ⌜ (later < productionsLimit) × Placed (now table) (now offsets) later × Ranked (now table) (now ranks) later ⌝ }
+    requires other { ⌜ (earlier < productionsLimit) × Placed (now table) (now offsets) earlier × Ranked (now table) (now ranks) earlier ⌝ }
     requires ranges { ⌜ (getD (now ranks) later 0 ≡ 1 → getD (now ranks) earlier 0 ≡ 1 → enterIn (now table) later earlier ≡ true) ⌝ }
     ensures { λ r. ⌜ r ≡ enterIn (now (table .entry)) later earlier ⌝ }
 {

@@ -19,9 +19,6 @@ use Rattle.clash_conditions.specs.EntryConditions.{raiseBy, lowerBy, ent
 
 -- ---- a signed local holds bits: a number that it holds is read back
 
-pub held : {z y : ℤ} → SFits w64 z → z ≡ y → toZ w64 (ofZ w64 z) ≡ y
-held f e = toZ-ofZ f ∙ e
-
 pub held-size : {z : ℤ} {n : ℕ} → SFits w64 z → natAbs z ≤ n → natAbs (toZ w64 (ofZ w64 z)) ≤ n
 held-size f l = rw (toZ-ofZ f) l
 

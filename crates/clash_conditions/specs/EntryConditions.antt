@@ -12,6 +12,7 @@ use lib.Seq.{drop-append-seam}
 use lib.Dec.{T, eqb}
 use lib.IntN.{ℤ}
 use lib.Signed.{leZ}
+use Rattle.meaning.specs.Limits.{attributesLimit}
 use Rattle.meaning.specs.Base.{all, keep, consIf}
 use Rattle.meaning.specs.Grammar.{Occurrence, Rule, Condition, range, atmost, Production, conditionPosition, mapCondition}
 use Rattle.meaning.specs.Layout.{field, unsigned, productionBytes, ruleBytes, conditionBytes, RulesAndConditions, nothing, rule, condition}
@@ -65,10 +66,10 @@ lowered cs ends = after lowerBy cs ends
 
 -- the ends before any condition: of all words
 abbrev pub lowest : List ℕ
-lowest = replicate 8 0
+lowest = replicate attributesLimit 0
 
 abbrev pub highest : List ℕ
-highest = replicate 8 4294967295
+highest = replicate attributesLimit 4294967295
 
 -- ---- one field, at the front of some bytes
 
@@ -103,7 +104,7 @@ pub record Stretch (d : List ℕ) (p : Production) : Type 0 where
   pub own : RulesAndConditions (p .rules) (p .conditions) body
   pub isHere : d ≡ field 3 (productionBytes p) ++ (body ++ rest)
   pub over : 0 < length rest → byte rest 0 ≡ 3
-  pub fits : T (all (entry 8) (atEntry (p .conditions)))
+  pub fits : T (all (entry attributesLimit) (atEntry (p .conditions)))
 
 -- what is left of it: rules and conditions up to the next tag 3 or the end
 pub record Left (d : List ℕ) : Type 0 where
@@ -114,13 +115,13 @@ pub record Left (d : List ℕ) : Type 0 where
   pub own : RulesAndConditions rules conditions body
   pub isHere : d ≡ body ++ rest
   pub over : 0 < length rest → byte rest 0 ≡ 3
-  pub fits : T (all (entry 8) (atEntry conditions))
+  pub fits : T (all (entry attributesLimit) (atEntry conditions))
 
 -- the field at the front, and what is left after it
 pub record FrontField (d : List ℕ) (cs : List (Condition Occurrence)) : Type 0 where
   pub next : Left (drop (fieldSize d) d)
   pub inside : fieldSize d ≤ length d
-  pub proper : entryHere d ≡ true → T (entry 8 (conditionHere d))
+  pub proper : entryHere d ≡ true → T (entry attributesLimit (conditionHere d))
   pub here : atEntry cs ≡ consIf (entryHere d) (conditionHere d) (atEntry (next .conditions))
 
 -- a field before other bytes
@@ -136,7 +137,7 @@ module _ (tag : ℕ) (b rest : List ℕ) where
 fieldFirst : (tag : ℕ) (b bs rest : List ℕ) → (field tag b ++ bs) ++ rest ≡ field tag b ++ (bs ++ rest)
 fieldFirst tag b bs rest = append-assoc (field tag b) bs rest
 
-module _ (tag : ℕ) (b : List ℕ) {rs : List (Rule Occurrence)} {cs : List (Condition Occurrence)} {bs : List ℕ} (own : RulesAndConditions rs cs bs) (rest : List ℕ) (over : 0 < length rest → byte rest 0 ≡ 3) (fits : T (all (entry 8) (atEntry cs))) where
+module _ (tag : ℕ) (b : List ℕ) {rs : List (Rule Occurrence)} {cs : List (Condition Occurrence)} {bs : List ℕ} (own : RulesAndConditions rs cs bs) (rest : List ℕ) (over : 0 < length rest → byte rest 0 ≡ 3) (fits : T (all (entry attributesLimit) (atEntry cs))) where
   abbrev front : List ℕ
   front = field tag b ++ (bs ++ rest)
 
@@ -156,11 +157,11 @@ module _ (tag : ℕ) (b : List ℕ) {rs : List (Rule Occurrence)} {cs : List (Co
   }
 
   -- an entry condition
-  taken : (c : Condition ℕ) → entryHere front ≡ true → conditionHere front ≡ c → T (entry 8 c) → (ds : List (Condition Occurrence)) → atEntry ds ≡ c ∷ atEntry cs → FrontField front ds
+  taken : (c : Condition ℕ) → entryHere front ≡ true → conditionHere front ≡ c → T (entry attributesLimit c) → (ds : List (Condition Occurrence)) → atEntry ds ≡ c ∷ atEntry cs → FrontField front ds
   taken c t is k ds e = record {
     next = after-it;
     inside = front-inside;
-    proper = λ _. subst (λ d. T (entry 8 d)) (sym is) k;
+    proper = λ _. subst (λ d. T (entry attributesLimit d)) (sym is) k;
     here = e ∙ sym (ap₂ (λ b d. consIf b d (atEntry cs)) t is);
   }
 
@@ -190,38 +191,38 @@ here-atmost o u (some c) rest = max-zero (o .position) (u .position)
 
 -- a condition's field
 condition-turn : (c : Condition Occurrence) {rs : List (Rule Occurrence)} {cs : List (Condition Occurrence)} {bs : List ℕ} → RulesAndConditions rs cs bs → (rest : List ℕ) → (0 < length rest → byte rest 0 ≡ 3)
-    → T (all (entry 8) (atEntry (c ∷ cs))) → FrontField (field 5 (conditionBytes c) ++ (bs ++ rest)) (c ∷ cs)
+    → T (all (entry attributesLimit) (atEntry (c ∷ cs))) → FrontField (field 5 (conditionBytes c) ++ (bs ++ rest)) (c ∷ cs)
 unfolding atEntry entryHere conditionHere
 condition-turn (range o l h) {rs} {cs} {bs} own rest over fits = go (eqb (o .position) 0) refl fits
   where
     back : T (fourBytes l) → T (fourBytes h) → conditionHere (field 5 (conditionBytes (range o l h)) ++ (bs ++ rest)) ≡ range (o .attribute) l h
     back x y = ap₂ (range (o .attribute)) (bound-back l x) (bound-back h y)
 
-    go : (b : Bool) → eqb (o .position) 0 ≡ b → T (all (entry 8) (map (mapCondition (λ z. z .attribute)) (consIf b (range o l h) (keep isEntry cs)))) → FrontField (field 5 (conditionBytes (range o l h)) ++ (bs ++ rest)) (range o l h ∷ cs)
+    go : (b : Bool) → eqb (o .position) 0 ≡ b → T (all (entry attributesLimit) (map (mapCondition (λ z. z .attribute)) (consIf b (range o l h) (keep isEntry cs)))) → FrontField (field 5 (conditionBytes (range o l h)) ++ (bs ++ rest)) (range o l h ∷ cs)
     go true e f =
-        let u = both (entry 8 (range (o .attribute) l h)) (all (entry 8) (atEntry cs)) f in
-        let k = entered 8 (o .attribute) l h (u .0) in
+        let u = both (entry attributesLimit (range (o .attribute) l h)) (all (entry attributesLimit) (atEntry cs)) f in
+        let k = entered attributesLimit (o .attribute) l h (u .0) in
         taken 5 (conditionBytes (range o l h)) own rest over (u .1) (range (o .attribute) l h) (ap (λ b. b && true) e) (back (k .low) (k .high)) (u .0) (range o l h ∷ cs) (ap (λ b. map (mapCondition (λ z. z .attribute)) (consIf b (range o l h) (keep isEntry cs))) e)
     go false e f = passed 5 (conditionBytes (range o l h)) own rest over f (ap (λ b. b && true) e) (range o l h ∷ cs) (ap (λ b. map (mapCondition (λ z. z .attribute)) (consIf b (range o l h) (keep isEntry cs))) e)
 condition-turn (atmost o v c) {rs} {cs} {bs} own rest over fits = go (isEntry (atmost o v c)) refl fits
   where
-    go : (b : Bool) → isEntry (atmost o v c) ≡ b → T (all (entry 8) (map (mapCondition (λ z. z .attribute)) (consIf b (atmost o v c) (keep isEntry cs)))) → FrontField (field 5 (conditionBytes (atmost o v c)) ++ (bs ++ rest)) (atmost o v c ∷ cs)
+    go : (b : Bool) → isEntry (atmost o v c) ≡ b → T (all (entry attributesLimit) (map (mapCondition (λ z. z .attribute)) (consIf b (atmost o v c) (keep isEntry cs)))) → FrontField (field 5 (conditionBytes (atmost o v c)) ++ (bs ++ rest)) (atmost o v c ∷ cs)
     go true e f =
-        let u = both (entry 8 (atmost (o .attribute) (v .attribute) c)) (all (entry 8) (atEntry cs)) f in
+        let u = both (entry attributesLimit (atmost (o .attribute) (v .attribute) c)) (all (entry attributesLimit) (atEntry cs)) f in
         let here = here-atmost o v c (bs ++ rest) ∙ e in
-        let read = offset-back o v c (bs ++ rest) (compared 8 (o .attribute) (v .attribute) c (u .0) .constant) in
+        let read = offset-back o v c (bs ++ rest) (compared attributesLimit (o .attribute) (v .attribute) c (u .0) .constant) in
         taken 5 (conditionBytes (atmost o v c)) own rest over (u .1) (atmost (o .attribute) (v .attribute) c) here read (u .0) (atmost o v c ∷ cs) (ap (λ b. map (mapCondition (λ z. z .attribute)) (consIf b (atmost o v c) (keep isEntry cs))) e)
     go false e f = passed 5 (conditionBytes (atmost o v c)) own rest over f (here-atmost o v c (bs ++ rest) ∙ e) (atmost o v c ∷ cs) (ap (λ b. map (mapCondition (λ z. z .attribute)) (consIf b (atmost o v c) (keep isEntry cs))) e)
 
 -- a rule's field
 rule-turn : (r : Rule Occurrence) {rs : List (Rule Occurrence)} {cs : List (Condition Occurrence)} {bs : List ℕ} → RulesAndConditions rs cs bs → (rest : List ℕ) → (0 < length rest → byte rest 0 ≡ 3)
-    → T (all (entry 8) (atEntry cs)) → FrontField (field 4 (ruleBytes r) ++ (bs ++ rest)) cs
+    → T (all (entry attributesLimit) (atEntry cs)) → FrontField (field 4 (ruleBytes r) ++ (bs ++ rest)) cs
 unfolding entryHere
 rule-turn r {rs} {cs} own rest over fits = passed 4 (ruleBytes r) own rest over fits refl cs refl
 
 -- ---- a walk along the fields
 
-turn-of : {rs : List (Rule Occurrence)} {cs : List (Condition Occurrence)} {body : List ℕ} → RulesAndConditions rs cs body → (rest : List ℕ) → (0 < length rest → byte rest 0 ≡ 3) → T (all (entry 8) (atEntry cs))
+turn-of : {rs : List (Rule Occurrence)} {cs : List (Condition Occurrence)} {body : List ℕ} → RulesAndConditions rs cs body → (rest : List ℕ) → (0 < length rest → byte rest 0 ≡ 3) → T (all (entry attributesLimit) (atEntry cs))
     → 0 < length (body ++ rest) → (byte (body ++ rest) 0 ≡ 3 → ⊥) → FrontField (body ++ rest) cs
 turn-of nothing rest over fits l n = absurd (n (over l))
 turn-of (rule r {rs} {cs} {bs} own) rest over fits l n = subst (λ z. FrontField z cs) (sym (fieldFirst 4 (ruleBytes r) bs rest)) (rule-turn r own rest over fits)

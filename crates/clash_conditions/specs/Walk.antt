@@ -6,11 +6,13 @@ use mathlib.Core.Bool.{Bool, true, false}
 use mathlib.Core.List.{List}
 use lib.Dec.{T}
 use lib.ListN.{length, take, drop, length-drop}
-use lib.Seq.{take-all, drop-drop}
+use lib.Seq.{drop-drop}
+use Rattle.meaning.specs.Limits.{attributesLimit}
 use Rattle.meaning.specs.Base.{consIf}
 use Rattle.meaning.specs.Grammar.{Condition, Production}
 use Rattle.meaning.specs.Table.{byte}
 use Rattle.theory_sets.specs.Intervals.{entry}
+use Rattle.theory_base.specs.Members.{from-on}
 use Rattle.clash_conditions.specs.EntryConditions.{atEntry, after, fieldSize, entryHere, conditionHere, ifEntry, afterField, Stretch, Left, FrontField, left-turn, left-none, stretch-left}
 
 -- the state after all entry conditions of p
@@ -18,8 +20,6 @@ abbrev pub afterAll : {S : Type 0} → (Condition ℕ → S → S) → Productio
 afterAll f p s = after f (atEntry (p .conditions)) s
 
 -- the part of a slice from an index on
-pub from-on : (l : List ℕ) (at : ℕ) → take (length l - at) (drop at l) ≡ drop at l
-from-on l at = take-all (length l - at) (drop at l) (omega (arith, length-drop at l))
 
 -- what is left and what is done give the whole
 pub record Going {S : Type 0} (f : Condition ℕ → S → S) (d : List ℕ) (p : Production) (s₀ s : S) (at : ℕ) : Type 0 where
@@ -51,8 +51,8 @@ module _ {S : Type 0} {f : Condition ℕ → S → S} {d : List ℕ} {p : Produc
     turn : FrontField (drop at d) (w .left .conditions)
     turn = left-turn (drop at d) (w .left) (omega (arith, length-drop at d)) (λ e. n (ap (λ z. byte z 0) same ∙ e))
 
-    pub going-proper : entryHere field ≡ true → T (entry 8 (conditionHere field))
-    going-proper t = subst (λ z. T (entry 8 (conditionHere z))) (sym same) (turn .proper (ap entryHere (sym same) ∙ t))
+    pub going-proper : entryHere field ≡ true → T (entry attributesLimit (conditionHere field))
+    going-proper t = subst (λ z. T (entry attributesLimit (conditionHere z))) (sym same) (turn .proper (ap entryHere (sym same) ∙ t))
 
     pub going-inside : (size : ℕ) → size ≡ fieldSize field → at + size ≤ length d
     going-inside size e = omega (arith, turn .inside, e, ap fieldSize same, length-drop at d)

@@ -4,6 +4,7 @@ ghost use mathlib.Core.Bool.{true};
 ghost use Prim.Native.Nat.{_<_, _≤_, max, min};
 ghost use lib.Dec.{T};
 ghost use lib.ListN.{getD, set};
+ghost use Rattle.meaning.specs.Limits.{attributesLimit};
 ghost use Rattle.meaning.specs.Grammar.{Production};
 ghost use Rattle.meaning.specs.Table.{signed};
 ghost use Rattle.theory_sets.specs.Intervals.{entry};
@@ -20,7 +21,7 @@ fn biased_word(word: u32) -> u32
 }
 
 fn raise(ends: &mut [u32; ATTRIBUTES], i: usize, v: u32)
-    requires { ⌜ i < 8 ⌝ }
+    requires { ⌜ i < attributesLimit ⌝ }
     ensures { λ r. ⌜ now (ends .exit) ≡ set (now (ends .entry)) i (max v (getD (now (ends .entry)) i 0)) ⌝ }
 {
     if ends[i] < v {
@@ -29,7 +30,7 @@ fn raise(ends: &mut [u32; ATTRIBUTES], i: usize, v: u32)
 }
 
 fn lower(ends: &mut [u32; ATTRIBUTES], i: usize, v: u32)
-    requires { ⌜ i < 8 ⌝ }
+    requires { ⌜ i < attributesLimit ⌝ }
     ensures { λ r. ⌜ now (ends .exit) ≡ set (now (ends .entry)) i (min v (getD (now (ends .entry)) i 0)) ⌝ }
 {
     if v < ends[i] {
@@ -70,7 +71,7 @@ fn narrow(
     lows: &mut [u32; ATTRIBUTES],
     highs: &mut [u32; ATTRIBUTES],
 ) -> u8
-    requires { ⌜ (entryHere (now field) ≡ true → T (entry 8 (conditionHere (now field)))) ⌝ }
+    requires { ⌜ (entryHere (now field) ≡ true → T (entry attributesLimit (conditionHere (now field)))) ⌝ }
     ensures said { λ r. ⌜ r ≡ afterField rankBy (now (field .entry)) found ⌝ }
     ensures low { λ r. ⌜ now (lows .exit) ≡ afterField raiseBy (now (field .entry)) (now (lows .entry)) ⌝ }
     ensures high { λ r. ⌜ now (highs .exit) ≡ afterField lowerBy (now (field .entry)) (now (highs .entry)) ⌝ }

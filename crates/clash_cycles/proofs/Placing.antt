@@ -3,13 +3,15 @@ use Prim.Native.Nat.{ℕ, zero, suc, _+_, _-_, _*_, _≤_, _<_}
 use native.Mathlib.Omega.{arith}
 use native.Mathlib.Decide.{ℕ-discrete}
 use mathlib.Core.Path.{_≡_, refl, sym, ap, ap₂, _∙_}
-use mathlib.Core.Bool.{true, false}
+use mathlib.Core.Bool.{true, false, true≢false, false≢true}
 use mathlib.Core.List.{List, _∷_}
 use lib.IntN.{ℤ, pos, negsuc, natAbs, _+ℤ_}
 use lib.ListN.{getD, length, set, replicate}
 use lib.Seq.{getD-set-same, getD-set-other}
+use Rattle.meaning.specs.Limits.{attributesLimit}
 use Rattle.meaning.specs.Differences.{at, closed, lesser}
 use Rattle.theory_base.specs.Absolute.{natAbs-add}
+use Rattle.theory_base.specs.Members.{replicate-at}
 use Rattle.meaning.specs.Grammar.{Condition}
 use Rattle.theory_differences.specs.Solving.{NoneNegative, least, least-same, least-keeps, changed, at-changed, off-changed, solution}
 use Rattle.theory_differences.specs.Closing.{Small}
@@ -26,13 +28,8 @@ least-turn f (suc j) x y h d e =
 
 -- ---- at the start
 
-pub zeros : (n i : ℕ) → getD (replicate n (pos 0)) i (pos 0) ≡ pos 0
-zeros zero i = refl
-zeros (suc n) zero = refl
-zeros (suc n) (suc i) = zeros n i
-
 pub zeros-near : Near 0 (replicate 9 (pos 0))
-zeros-near i h = rw (zeros 9 i) (omega arith)
+zeros-near i h = rw (replicate-at 9 i (pos 0)) (omega arith)
 
 is-zero : (z : ℤ) → natAbs z ≤ 0 → z ≡ pos 0
 is-zero (pos n) h = ap pos (omega arith)
@@ -83,13 +80,10 @@ listed-same : (f g : ℕ → ℤ) (from c : ℕ) → ((i : ℕ) → i < from + c
 listed-same f g from zero e = refl
 listed-same f g from (suc c) e = ap₂ (λ (x : ℤ) (l : List ℤ). x ∷ l) (e from (omega arith)) (listed-same f g (suc from) c (λ i h. e i (omega arith)))
 
-differ : {A : Type 0} → true ≡ false → A
-differ e = absurd (let z : _≡_ {A = ℕ} 0 1 = cc in omega arith)
-
-pub solved : (l m v : List ℤ) (n : ℕ) (cs : List (Condition ℕ)) → m ≡ closed l → NoneNegative (at m) 9 → Placed (at m) 8 v → EntriesAreWalks l n cs → Solves true v n cs
+pub solved : (l m v : List ℤ) (n : ℕ) (cs : List (Condition ℕ)) → m ≡ closed l → NoneNegative (at m) 9 → Placed (at m) attributesLimit v → EntriesAreWalks l n cs → Solves true v n cs
 solved l m v n cs e f p s =
-    let same : listed (nodeValue v) 1 n ≡ listed (solution (at (closed l)) 8) 1 n = listed-same (nodeValue v) (solution (at (closed l)) 8) 1 n (λ i h. (rw e at p) i (omega (arith, s .fits))) in
-    record { values = λ h. rw same (found l n cs s (rw e at f)); cycle = λ h. differ h }
+    let same : listed (nodeValue v) 1 n ≡ listed (solution (at (closed l)) attributesLimit) 1 n = listed-same (nodeValue v) (solution (at (closed l)) attributesLimit) 1 n (λ i h. (rw e at p) i (omega (arith, s .fits))) in
+    record { values = λ h. rw same (found l n cs s (rw e at f)); cycle = λ h. absurd (true≢false h) }
 
 pub unsolved : (l m v : List ℤ) (n : ℕ) (cs : List (Condition ℕ)) → m ≡ closed l → Negative m → EntriesAreWalks l n cs → Solves false v n cs
-unsolved l m v n cs e f s = record { values = λ h. differ (sym h); cycle = λ h. cycle l n cs s (f .node) (f .below) (rw e at (f .sum)) }
+unsolved l m v n cs e f s = record { values = λ h. absurd (false≢true h); cycle = λ h. cycle l n cs s (f .node) (f .below) (rw e at (f .sum)) }

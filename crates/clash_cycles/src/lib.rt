@@ -4,12 +4,14 @@ ghost use mathlib.Core.Path.{_≡_};
 ghost use mathlib.Core.List.{List};
 ghost use lib.ListN.{length};
 ghost use lib.IntN.{natAbs, _+ℤ_};
+ghost use Rattle.meaning.specs.Limits.{attributesLimit};
 ghost use Rattle.meaning.specs.Grammar.{Condition};
 ghost use Rattle.meaning.specs.Differences.{at, shorter, put, rowRelaxed, eliminated, closed, noneNegative};
 ghost use Rattle.theory_differences.specs.Solving.{least};
 ghost use Rattle.theory_differences.specs.Closing.{Small, room};
 ghost use Rattle.theory_differences.specs.Decided.{EntriesAreWalks, limit};
 ghost use Rattle.clash_cycles.specs.Values.{nodeValue, Near, Placed, Solves};
+use limits::ATTRIBUTES;
 
 // ---- its elimination
 
@@ -49,10 +51,10 @@ fn eliminate(m: &mut [i64], k: usize)
 
 // Eliminates the nodes 8 to 1. Each doubles an entry at most, so no sum overflows.
 fn close(m: &mut [i64])
-    requires { ⌜ (length (now m) ≡ 81) × Small (room 8) (now m) ⌝ }
+    requires { ⌜ (length (now m) ≡ 81) × Small (room attributesLimit) (now m) ⌝ }
     ensures { λ r. ⌜ now (m .exit) ≡ closed (now (m .entry)) ⌝ }
 {
-    let mut k = 8;
+    let mut k = ATTRIBUTES;
     while 0 < k {
         eliminate(m, k);
         k -= 1;
@@ -101,7 +103,7 @@ fn placed(m: &[i64], v: &[i64], k: usize) -> i64
 // Places the nodes 1 to 8, each as high as the nodes before it allow: shortest paths.
 fn place(m: &[i64], v: &mut [i64])
     requires { ⌜ (length (now m) ≡ 81) × (length (now v) ≡ 9) × Small 576460752303423488 (now m) × Near 0 (now v) ⌝ }
-    ensures { λ r. ⌜ Placed (at (now (m .entry))) 8 (now (v .exit)) ⌝ }
+    ensures { λ r. ⌜ Placed (at (now (m .entry))) attributesLimit (now (v .exit)) ⌝ }
 {
     let mut k = 1;
     while k < 9 {

@@ -7,7 +7,8 @@ use mathlib.Core.Path.{_≡_, refl, sym}
 use mathlib.Core.Bool.{Bool, true, false}
 use mathlib.Core.List.{List, []}
 use lib.Dec.{T}
-use Rattle.theory_base.specs.Members.{T→true}
+use Rattle.meaning.specs.Value.{highest}
+use Rattle.theory_base.specs.Members.{T→true, false-of}
 use lib.IntN.{ℤ, pos, natAbs, _+ℤ_}
 use lib.ListN.{getD, length, set}
 use lib.Seq.{getD-set-same, getD-set-other}
@@ -36,7 +37,7 @@ pub bound-zero : (n i : ℕ) → i ≡ 0 → bound n i ≡ pos 0
 unfolding bound
 bound-zero n i e = rw e
 
-pub bound-high : (n i : ℕ) → (i ≡ 0 → ⊥) → i ≤ n → bound n i ≡ pos 1000000000000
+pub bound-high : (n i : ℕ) → (i ≡ 0 → ⊥) → i ≤ n → bound n i ≡ highest
 bound-high n zero d h = absurd (d refl)
 bound-high n (suc a) d h = bound-there n a h
 
@@ -123,11 +124,7 @@ le-of a b e = ltZ-no (rw e tt)
 -- as one equation
 pub tested-is : (r : Bool) (l : List ℤ) → Tested r l → r ≡ noneNegative l
 tested-is true l t = sym (T→true (noneNegative l) (all-none-negative l (t .clear refl)))
-tested-is false l t = sym (go (noneNegative l) (λ h. clashℤ (f .sum) (none-negative l h (f .node) (f .below))))
+tested-is false l t = sym (false-of (noneNegative l) (λ h. clashℤ (f .sum) (none-negative l h (f .node) (f .below))))
   where
     f : Negative l
     f = t .failed refl
-
-    go : (b : Bool) → (T b → ⊥) → b ≡ false
-    go true k = absurd (k tt)
-    go false k = refl

@@ -5,6 +5,7 @@ ghost use mathlib.Core.List.{[]};
 ghost use mathlib.Core.Option.{some};
 ghost use lib.ListN.{length};
 ghost use lib.IntN.{natAbs};
+ghost use Rattle.value.specs.Overflow.{reach};
 ghost use Rattle.meaning.specs.Grammar.{range, atmost};
 ghost use Rattle.meaning.specs.Differences as Differences;
 ghost use Rattle.meaning.specs.Differences.{lowered, constrained, matrixOf};
@@ -26,7 +27,7 @@ pub fn lesser(a: i64, b: i64) -> i64
 
 // No value of the node is further from zero.
 fn bound(n: usize, node: usize) -> i64
-    ensures { λ r. ⌜ (r ≡ Differences.bound n node) × (natAbs r ≤ 1000000000000) ⌝ }
+    ensures { λ r. ⌜ (r ≡ Differences.bound n node) × (natAbs r ≤ reach) ⌝ }
 {
     if node == 0 {
         return 0;

@@ -7,6 +7,7 @@ ghost use Prim.Native.Nat.{_<_, _≤_};
 ghost use lib.Dec.{T};
 ghost use lib.IntN.{natAbs};
 ghost use lib.ListN.{length};
+ghost use Rattle.meaning.specs.Limits.{attributesLimit};
 ghost use Rattle.meaning.specs.Grammar.{Production};
 ghost use Rattle.meaning.specs.Table.{constantAt};
 ghost use Rattle.meaning.specs.Value.{added};
@@ -36,7 +37,7 @@ fn offset(field: &[u8]) -> i64
 
 // The matrix with the field at the front, if it is an entry condition.
 fn constrain(field: &[u8], m: &mut [i64])
-    requires { ⌜ (length (now m) ≡ 81) × (entryHere (now field) ≡ true → T (entry 8 (conditionHere (now field)))) ⌝ }
+    requires { ⌜ (length (now m) ≡ 81) × (entryHere (now field) ≡ true → T (entry attributesLimit (conditionHere (now field)))) ⌝ }
     ensures met { λ r. ⌜ now (m .exit) ≡ afterField constrained (now (field .entry)) (now (m .entry)) ⌝ }
     ensures small { λ r. ⌜ (Small limit (now (m .entry)) → Small limit (now (m .exit))) ⌝ }
 {

@@ -4,9 +4,10 @@ use mathlib.Core.Bool.{Bool}
 use mathlib.Core.List.{List}
 use lib.Dec.{leb}
 use lib.ListN.{getD}
+use Rattle.meaning.specs.Limits.{attributesLimit}
 use Rattle.meaning.specs.Base.{all, countFrom}
 
 -- no interval of both p and q is empty: from the higher low end to the lower high end
 unfoldable pub leaveValues : List ℕ → List ℕ → ℕ → ℕ → Bool
 leaveValues lows highs p q =
-    all (λ a. leb (max (getD lows (8 * p + a) 0) (getD lows (8 * q + a) 0)) (min (getD highs (8 * p + a) 0) (getD highs (8 * q + a) 0))) (countFrom 0 8)
+    all (λ a. leb (max (getD lows (attributesLimit * p + a) 0) (getD lows (attributesLimit * q + a) 0)) (min (getD highs (attributesLimit * p + a) 0) (getD highs (attributesLimit * q + a) 0))) (countFrom 0 attributesLimit)

@@ -7,11 +7,12 @@ use outline::left_of;
 use token_set::TokenSet;
 ghost use mathlib.Core.Path.{_≡_};
 ghost use Prim.Native.Nat.{_<_, _≤_};
+ghost use Rattle.meaning.specs.Limits.{productionsLimit};
 ghost use Rattle.clash_rivals.specs.Rivals.{startTogether, rival, NextRival};
 
 // Whether productions p and q have one left side and sets that meet.
 fn starts_together(rows: &[u8; ROWS], sets: &[u64; PRODUCTIONS], p: usize, q: usize) -> bool
-    requires { ⌜ (p < 128) × (q < 128) ⌝ }
+    requires { ⌜ (p < productionsLimit) × (q < productionsLimit) ⌝ }
     ensures { λ r. ⌜ r ≡ startTogether (now (rows .entry)) (now (sets .entry)) p q ⌝ }
 {
     if left_of(rows, p) != left_of(rows, q) {
@@ -32,7 +33,7 @@ fn is_rival(
     p: usize,
     q: usize,
 ) -> bool
-    requires { ⌜ (p < 128) × (q < 128) ⌝ }
+    requires { ⌜ (p < productionsLimit) × (q < productionsLimit) ⌝ }
     ensures { λ r. ⌜ r ≡ rival (now (rows .entry)) (now (sets .entry)) (now (lows .entry)) (now (highs .entry)) (now (ranks .entry)) p q ⌝ }
 {
     if !starts_together(rows, sets, p, q) {
@@ -57,7 +58,7 @@ pub fn next_rival(
     later: usize,
     from: usize,
 ) -> usize
-    requires { ⌜ (later < 128) × (from ≤ later) ⌝ }
+    requires { ⌜ (later < productionsLimit) × (from ≤ later) ⌝ }
     ensures { λ r. ⌜ NextRival (rival (now (rows .entry)) (now (sets .entry)) (now (lows .entry)) (now (highs .entry)) (now (ranks .entry)) later) later from r ⌝ }
 {
     let mut earlier = from;

@@ -5,6 +5,7 @@ use mathlib.Core.Path.{_≡_, sym, ap, subst, _∙_}
 use mathlib.Core.List.{List, _++_, map, reverse}
 use lib.ListN.{length, getD, take, length-map, length-reverse}
 use lib.Seq.{length-take-le, getD-take, ext-getD}
+use Rattle.meaning.specs.Limits.{productionsLimit}
 use Rattle.meaning.specs.Table.{State, Entry, noEntry}
 use Rattle.meaning.specs.Layout.{Bytes}
 use Rattle.meaning.specs.PublicCalls.{usable, check}
@@ -79,7 +80,7 @@ module _ (t inherited synthesized rows offsets sets : List ℕ) (q : Judged) (j 
   pub answer-refused : (n o : ℕ) → q ≡ Unusable n o → (out : List ℕ) → houseIs (Variant.Unusable n o) out ≡ houseOf t out
   answer-refused n o e out = sym (house-unusable t n o out (refused-case t inherited synthesized rows offsets sets q j n o e))
 
-  pub answer-offsets : (sizes : Sizes) → q ≡ Usable sizes → 128 ≡ length offsets
+  pub answer-offsets : (sizes : Sizes) → q ≡ Usable sizes → productionsLimit ≡ length offsets
   answer-offsets sizes e = sym (accepted-case t inherited synthesized rows offsets sets q j sizes e .outlined .outline .lengths .3)
 
   module _ (bytes : Bytes t) (sizes : Sizes) (e : q ≡ Usable sizes) (size : ℕ) (k : size ≡ 1664) where

@@ -8,12 +8,13 @@ use lib.Seq.{length-take-le, getD-take}
 use lib.Dec.{eqb}
 use lib.IntN.{ℤ}
 use borrow.Author.Tests.{ne-eqb, eq-eqb}
+use Rattle.meaning.specs.Limits.{nonterminalsLimit, productionsLimit}
 use Rattle.meaning.specs.Rules.{WellFormed}
 use Rattle.meaning.specs.Layout.{Bytes}
 use Rattle.meaning.specs.Grammar.{Grammar, productionAt}
 use Rattle.meaning.specs.Table.{symbolOf}
 use Rattle.outline.specs.declared.Sizes.{Sizes}
-use Rattle.outline.specs.Images.{ImageOf, rowStart, sizeAt, right-is, size-is, symbol-is}
+use Rattle.outline.specs.Images.{ImageOf, rowStart, sizeAt, right-is, size-is, symbol-is, rowsLength}
 use Rattle.outline.specs.Outline.{grammarIn, Productions, Outline}
 use Rattle.checker.specs.Judging.{Accepts, Judges}
 use Rattle.checker.proofs.Cases.{accepted-case, refused-case}
@@ -82,7 +83,7 @@ module _ (t inherited synthesized rows offsets sets : List ℕ) (q : Table.Judge
     abbrev formed : WellFormed g
     formed = b .productions .rowsOf .sound
 
-    pub lengths : (48 ≡ length inherited) × (48 ≡ length synthesized) × (2048 ≡ length rows) × (128 ≡ length offsets)
+    pub lengths : (nonterminalsLimit ≡ length inherited) × (nonterminalsLimit ≡ length synthesized) × (rowsLength ≡ length rows) × (productionsLimit ≡ length offsets)
     lengths = let l = b .lengths in (sym (l .0), sym (l .1), sym (l .2), sym (l .3))
 
     if-even : (a : JudgeAnswer) → SettlesIf (eqb (length ks) (length vs)) g ks vs sheet a → JudgedAs t ks vs sheet a

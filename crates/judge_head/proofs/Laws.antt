@@ -2,14 +2,13 @@
 use Prim.Native.Nat.{ℕ, _+_, _-_, _*_, _≤_, _<_}
 use native.Mathlib.Omega.{arith}
 use mathlib.Core.Path.{_≡_, sym, ap, ap₂, _∙_, subst}
-use mathlib.Core.Bool.{Bool, true, false}
+use mathlib.Core.Bool.{Bool, true, false, true≢false}
 use mathlib.Core.List.{List}
 use lib.ListN.{length}
 use Rattle.meaning.specs.Base.{all}
 use Rattle.meaning.specs.Table.{byte}
 use Rattle.outline.specs.Images.{rowCount, leftAt}
 use Rattle.meaning.specs.Value.{inRange}
-use Rattle.theory_base.specs.Members.{apart}
 use Rattle.value.specs.Constants.{wordAt}
 use Rattle.theory_judge.specs.Longs.{longs}
 use Rattle.judge_head.specs.Heads.{Heads, HeadIs, HeadOrNone}
@@ -46,7 +45,7 @@ module _ (rows inherited synthesized sheet : List ℕ) (at from m i s : ℕ) (ei
         module _ (a : Bool) (ea : a ≡ all inRange (longs sheet (at + 12) (i + s))) where
           pub head-far : a ≡ false → HeadOrNone rows inherited synthesized sheet at from m Unfit
           unfolding HeadOrNone
-          head-far f h = apart (sym (h .ranges) ∙ (ap (λ n. all inRange (longs sheet (at + 12) n)) (sym both) ∙ (sym ea ∙ f)))
+          head-far f h = true≢false (sym (h .ranges) ∙ (ap (λ n. all inRange (longs sheet (at + 12) n)) (sym both) ∙ (sym ea ∙ f)))
 
           pub head-found : at < length sheet → 12 + 8 * (i + s) ≤ length sheet - at → p < rowCount rows → q ≡ m → w ≡ from → a ≡ true → (c : ℕ) → c ≡ wordAt sheet (at + 8) → HeadOrNone rows inherited synthesized sheet at from m (Found p (at + 12 + 8 * (i + s)) c)
           unfolding HeadOrNone

@@ -1,5 +1,6 @@
 // A node's own record in a sheet.
 ghost use Prim.Native.Nat.{_+_, _≤_};
+ghost use Rattle.meaning.specs.Limits.{attributesLimit};
 ghost use Rattle.meaning.specs.Table.{byte};
 ghost use Rattle.judge_head.specs.Heads.{HeadOrNone};
 
@@ -23,7 +24,7 @@ pub fn heading(
     from: usize,
     m: usize,
 ) -> Head
-    requires { ⌜ byte (now inherited) m + byte (now synthesized) m ≤ 8 ⌝ }
+    requires { ⌜ byte (now inherited) m + byte (now synthesized) m ≤ attributesLimit ⌝ }
     ensures { λ r. ⌜ HeadOrNone (now (rows .entry)) (now (inherited .entry)) (now (synthesized .entry)) (now (sheet .entry)) at from m r ⌝ }
 {
     let n = (value::byte_at(inherited, m) + value::byte_at(synthesized, m)) as usize;

@@ -1,6 +1,7 @@
 // A sheet against a table and a segment: a node goes through its children, and each child is a node again.
 ghost use mathlib.Core.Path.{_≡_};
 ghost use lib.ListN.{length};
+ghost use Rattle.meaning.specs.Limits.{positionsLimit};
 ghost use Rattle.judge_parts.specs.Checked.{NodeReady, NodeEnds, ChildrenReady, ChildrenEnds};
 use judge_parts::Answer;
 use judge_parts::Begun;
@@ -62,7 +63,7 @@ pub fn check_children(
     node: Node,
     marks: &mut [usize; POSITIONS],
 ) -> Answer
-    requires { ⌜ ChildrenReady (now table) (now rows) (now inh) (now syn) (now offsets) (now kinds) (now values) (now sheet) (node .production) (node .from) × (length (now marks) ≡ 13) ⌝ }
+    requires { ⌜ ChildrenReady (now table) (now rows) (now inh) (now syn) (now offsets) (now kinds) (now values) (now sheet) (node .production) (node .from) × (length (now marks) ≡ positionsLimit) ⌝ }
     ensures { λ r. ⌜ ChildrenEnds (now (table .entry)) (now (rows .entry)) (now (inh .entry)) (now (syn .entry)) (now (offsets .entry)) (now (kinds .entry)) (now (values .entry)) (now (sheet .entry))
         (node .production) (node .behind) (node .from) (node .depth) (now (marks .entry)) (now (marks .exit)) r ⌝ }
 {

@@ -6,9 +6,7 @@ use mir.Syntax.{w64}
 use mir.Facts.{toZ-ofZ}
 use mir.Val.{SFits, toZ, ofZ}
 use Rattle.meaning.specs.Value.{inRange}
-
-pub held : {z y : ℤ} → SFits w64 z → z ≡ y → toZ w64 (ofZ w64 z) ≡ y
-held f e = toZ-ofZ f ∙ e
+use Rattle.value.proofs.Bits.{held}
 
 pub valued : {z y : ℤ} → SFits w64 z → z ≡ y → inRange z ≡ true → (toZ w64 (ofZ w64 z) ≡ y) × (inRange (toZ w64 (ofZ w64 z)) ≡ true)
 valued f e i = (held f e, ap inRange (toZ-ofZ f) ∙ i)

@@ -2,6 +2,7 @@
 ghost use Prim.Native.Nat.{_≤_};
 ghost use mathlib.Core.Path.{_≡_};
 ghost use mathlib.Core.Bool.{true};
+ghost use Rattle.meaning.specs.Limits.{attributesLimit};
 ghost use Rattle.meaning.specs.Value.{inRange};
 ghost use Rattle.meaning.specs.Base.{all};
 ghost use Rattle.value.specs.Ranged.{ranged};
@@ -53,7 +54,7 @@ pub fn value_in(bytes: &[u8], at: usize) -> i64
 
 // Whether all of n numbers one after the other are values.
 pub fn are_values(bytes: &[u8], at: usize, n: usize) -> bool
-    requires { ⌜ (at ≤ 9223372036854775808) × (n ≤ 8) ⌝ }
+    requires { ⌜ (at ≤ 9223372036854775808) × (n ≤ attributesLimit) ⌝ }
     ensures { λ r. ⌜ r ≡ all inRange (longs (now (bytes .entry)) at n) ⌝ }
 {
     let mut place = at;

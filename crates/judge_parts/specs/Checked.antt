@@ -6,7 +6,8 @@ use mathlib.Core.List.{List}
 use lib.Dec.{eqb}
 use lib.ListN.{length, getD}
 use lib.IntN.{ℤ}
-use Rattle.meaning.specs.Grammar.{Grammar, terminal, Leaf, leaves, productionAt}
+use Rattle.meaning.specs.Limits.{positionsLimit, productionsLimit}
+use Rattle.meaning.specs.Grammar.{Grammar, terminal, Leaf, leaves, productionAt, nonterminalBase}
 use Rattle.meaning.specs.Rules.{Known}
 use Rattle.meaning.specs.Layout.{Bytes}
 use Rattle.meaning.specs.Table.{symbolOf}
@@ -73,7 +74,7 @@ pub record ChildrenReady (table rows inherited synthesized offsets ks : List ℕ
 -- the marks of the children behind that of the node itself
 unfoldable pub EndsAndMarks : Grammar → List ℕ → List ℤ → List ℕ → ℕ → ℕ → ℕ → ℕ → List ℕ → List ℕ → Answer → Type 0
 EndsAndMarks g ks vs sheet p at from d old new (Fits n e) =
-    Only (DescribedAll g (leavesIn g ks vs) sheet at from (productionAt g p .right) d) n e × Marked g (leavesIn g ks vs) sheet vs at from (productionAt g p .right) d new × (getD new 0 0 ≡ getD old 0 0) × (length new ≡ 13)
+    Only (DescribedAll g (leavesIn g ks vs) sheet at from (productionAt g p .right) d) n e × Marked g (leavesIn g ks vs) sheet vs at from (productionAt g p .right) d new × (getD new 0 0 ≡ getD old 0 0) × (length new ≡ positionsLimit)
 EndsAndMarks g ks vs sheet p at from d old new Wrong = None (DescribedAll g (leavesIn g ks vs) sheet at from (productionAt g p .right) d)
 
 abbrev pub ChildrenEnds : List ℕ → List ℕ → List ℕ → List ℕ → List ℕ → List ℕ → List ℤ → List ℕ → ℕ → ℕ → ℕ → ℕ → List ℕ → List ℕ → Answer → Type 0
@@ -87,9 +88,9 @@ subtreeOf at from symbol depth = record { at = at; from = from; symbol = symbol;
 
 -- the record of the tree is a node of its symbol, and the node is what it says
 pub record NodeIs (rows inherited synthesized sheet : List ℕ) (tree : Subtree) (node : Node) : Type 0 where
-  pub big : 128 ≤ tree .symbol
+  pub big : nonterminalBase ≤ tree .symbol
   pub deep : 0 < tree .depth
-  pub is : HeadIs rows inherited synthesized sheet (tree .at) (tree .from) (tree .symbol - 128) (node .production) (node .behind) (node .covered)
+  pub is : HeadIs rows inherited synthesized sheet (tree .at) (tree .from) (tree .symbol - nonterminalBase) (node .production) (node .behind) (node .covered)
   pub from : node .from ≡ tree .from
   pub less : node .depth ≡ tree .depth - 1
 
@@ -101,7 +102,7 @@ Begins rows inherited synthesized ks vs sheet tree (Inside node) = NodeIs rows i
 
 -- the rules and conditions of production p can be held against values
 pub record Holdable (table rows offsets : List ℕ) (p : ℕ) : Type 0 where
-  pub few : p < 128
+  pub few : p < productionsLimit
   pub from : fieldsFrom rows offsets p ≤ stretchEnd table offsets (rowCount rows) p
   pub to : stretchEnd table offsets (rowCount rows) p ≤ length table
   pub listed : Listed (fieldsOf table rows offsets p)
@@ -115,6 +116,6 @@ closing h node n e = cond (eqb (e - node .from) (node .covered)) (cond h (Fits n
 
 -- k symbols of production p are passed: the marks behind the first are theirs, and the first stays
 pub record ChildrenPassed (table rows inherited synthesized offsets ks : List ℕ) (vs : List ℤ) (sheet : List ℕ) (p at from d : ℕ) (marks₀ : List ℕ) (k next end : ℕ) (marks : List ℕ) : Type 0 where
-  pub long : length marks ≡ 13
+  pub long : length marks ≡ positionsLimit
   pub own : getD marks 0 0 ≡ getD marks₀ 0 0
   pub upto : (x : ChildrenReady table rows inherited synthesized offsets ks vs sheet p from) → Upto (grammarIn table) (leavesIn (grammarIn table) ks vs) sheet vs at from (productionAt (grammarIn table) p .right) d k next end marks

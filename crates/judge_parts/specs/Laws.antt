@@ -9,8 +9,9 @@ use lib.Dec.{eqb}
 use borrow.Author.Tests.{eqb-true, eqb-false}
 use lib.Seq.{getD-set-same, getD-set-other}
 use lib.IntN.{ℤ, pos}
+use Rattle.meaning.specs.Limits.{attributesLimit, positionsLimit, productionsLimit, symbolsLimit}
 use Rattle.meaning.specs.Base.{all}
-use Rattle.meaning.specs.Grammar.{Grammar, terminal, nonterminal, att, nonterminalCount, productionAt}
+use Rattle.meaning.specs.Grammar.{Grammar, terminal, nonterminal, att, nonterminalCount, productionAt, nonterminalBase}
 use Rattle.meaning.specs.Rules.{Known}
 use Rattle.meaning.specs.Table.{byte, symbolOf}
 use Rattle.meaning.specs.Value.{inRange}
@@ -58,10 +59,10 @@ none-of-wrong P r t q = subst (λ z. EndsOrNone P z) q t
 
 -- ---- symbols by their bytes
 
-pub mark-low : (n b at from : ℕ) → b < 128 → n + from ≡ markOf n (symbolOf b) at from
+pub mark-low : (n b at from : ℕ) → b < nonterminalBase → n + from ≡ markOf n (symbolOf b) at from
 mark-low n b at from l = sym (ap (λ x. markOf n x at from) (symbol-terminal b l))
 
-pub mark-high : (n b at from : ℕ) → 128 ≤ b → at ≡ markOf n (symbolOf b) at from
+pub mark-high : (n b at from : ℕ) → nonterminalBase ≤ b → at ≡ markOf n (symbolOf b) at from
 mark-high n b at from l = sym (ap (λ x. markOf n x at from) (symbol-nonterminal b l))
 
 -- ---- a token
@@ -96,7 +97,7 @@ module _ {table rows inherited synthesized offsets ks : List ℕ} {vs : List ℤ
   few : length (leavesIn g ks vs) < 4294967296
   few = omega (arith, many, b .few)
 
-  pub productions-few : (p : ℕ) → p < length (g .productions) → p < 128
+  pub productions-few : (p : ℕ) → p < length (g .productions) → p < productionsLimit
   productions-few p l = omega (arith, rowsOf .sound .productions .1)
 
   pub counts-are : (n : ℕ) → n < nonterminalCount g → byte inherited n + byte synthesized n ≡ att g (nonterminal n)
@@ -105,7 +106,7 @@ module _ {table rows inherited synthesized offsets ks : List ℕ} {vs : List ℤ
   pub row-at : (p : ℕ) → p < length (g .productions) → p < rowCount rows
   row-at p l = omega (arith, rowsOf .counted)
 
-  pub attributes-few : (n : ℕ) → n < nonterminalCount g → byte inherited n + byte synthesized n ≤ 8
+  pub attributes-few : (n : ℕ) → n < nonterminalCount g → byte inherited n + byte synthesized n ≤ attributesLimit
   attributes-few n l = omega (arith, counts-are n l, counts-most g (rowsOf .sound) n)
 
   pub span-inside : (p : ℕ) → p < length (g .productions) → (fieldsFrom rows offsets p ≤ stretchEnd table offsets (rowCount rows) p) × (stretchEnd table offsets (rowCount rows) p ≤ length table)
@@ -147,12 +148,12 @@ module _ {table rows inherited synthesized offsets ks : List ℕ} {vs : List ℤ
   abbrev Here : ℕ → ℕ → Type 0
   Here = Described gr (leavesIn gr ks vs) sheet at from (symbolOf symbol) d
 
-  pub by-token : symbol < 128 → (r : Answer) → TokenEnds ks vs at from symbol r → EndsOrNone Here r
+  pub by-token : symbol < nonterminalBase → (r : Answer) → TokenEnds ks vs at from symbol r → EndsOrNone Here r
   by-token l r t = subst (λ y. EndsOrNone (Described gr (leavesIn gr ks vs) sheet at from y d) r) (sym (symbol-terminal symbol l)) (t gr sheet d (x .book .even))
 
-  module _ (big : 128 ≤ symbol) where
+  module _ (big : nonterminalBase ≤ symbol) where
     abbrev m : ℕ
-    m = symbol - 128
+    m = symbol - nonterminalBase
 
     pub known-m : m < nonterminalCount gr
     known-m = subst (Known gr) (symbol-nonterminal symbol big) (x .known)
@@ -194,13 +195,13 @@ module _ {table rows inherited synthesized offsets ks : List ℕ} {vs : List ℤ
               Only (DescribedAll gr (leavesIn gr ks vs) sheet (at + 12 + 8 * att gr (nonterminal m)) from (productionAt gr (wordAt sheet at) .right) (d - 1)) n e
               × Marked gr (leavesIn gr ks vs) sheet vs (at + 12 + 8 * att gr (nonterminal m)) from (productionAt gr (wordAt sheet at) .right) (d - 1) new
               × (getD new 0 0 ≡ getD old 0 0)
-              × (length new ≡ 13)
+              × (length new ≡ positionsLimit)
 
           got : Got
           unfolding EndsAndMarks
           got = subst (λ z. EndsAndMarks gr ks vs sheet (wordAt sheet at) (at + 12 + 8 * att gr (nonterminal m)) from (d - 1) old new z) fits ends-there
 
-          pub thirteen : length new ≡ 13
+          pub thirteen : length new ≡ positionsLimit
           thirteen = got .3
 
           pub from-end : from ≤ e
@@ -263,7 +264,7 @@ module _ {table rows inherited synthesized offsets ks : List ℕ} {vs : List ℤ
     node-wrong = wrong x (tree .at) (tree .depth) (i .big) (node .production) (node .behind) (node .covered) (i .is) old new a below-there
 
     module _ (n e : ℕ) (fits : a ≡ Fits n e) where
-      pub node-thirteen : length new ≡ 13
+      pub node-thirteen : length new ≡ positionsLimit
       node-thirteen = thirteen x (tree .at) (tree .depth) (i .big) (node .production) (node .behind) (node .covered) (i .is) old new a below-there n e fits
 
       pub node-from : node .from ≤ e
@@ -282,14 +283,14 @@ module _ {table rows inherited synthesized offsets ks : List ℕ} {vs : List ℤ
   pub size-is : (x : ChildrenReady table rows inherited synthesized offsets ks vs sheet p from) → sizeAt rows p ≡ length (productionAt (grammarIn table) p .right)
   size-is x = R.size-is (x .book .productions .rowsOf) p (row-at (x .book) p (x .listed))
 
-  pub size-few : (x : ChildrenReady table rows inherited synthesized offsets ks vs sheet p from) → sizeAt rows p ≤ 12
+  pub size-few : (x : ChildrenReady table rows inherited synthesized offsets ks vs sheet p from) → sizeAt rows p ≤ symbolsLimit
   size-few x = omega (arith, size-is x, well-formed-at (grammarIn table) (x .book .productions .rowsOf .sound) p (x .listed) .short)
 
   pub row-inside : (x : ChildrenReady table rows inherited synthesized offsets ks vs sheet p from) → HasRow rows p
   row-inside x = omega (arith, x .listed, x .book .productions .rowsOf .counted)
 
 module _ {table rows inherited synthesized offsets ks : List ℕ} {vs : List ℤ} {sheet : List ℕ} {p at from d : ℕ} {marks₀ : List ℕ} where
-  pub passed-none : length marks₀ ≡ 13 → ChildrenPassed table rows inherited synthesized offsets ks vs sheet p at from d marks₀ 0 at from marks₀
+  pub passed-none : length marks₀ ≡ positionsLimit → ChildrenPassed table rows inherited synthesized offsets ks vs sheet p at from d marks₀ 0 at from marks₀
   passed-none l = record {
     long = l;
     own = refl;
@@ -322,7 +323,7 @@ module _ {table rows inherited synthesized offsets ks : List ℕ} {vs : List ℤ
         unfolding EndsAndMarks
         passed-wrong new w x = P.upto-wrong (grammarIn table) (x .book .productions .rowsOf .sound) ks vs (few (x .book)) sheet at from (productionAt (grammarIn table) p .right) d k next end marks (s .upto x) (omega (arith, size-is x)) (none-of-wrong _ r (node-ends x) w)
 
-        pub passed-more : (n₁ e₁ : ℕ) → r ≡ Fits n₁ e₁ → k + 1 < 13 → (mark : ℕ) → mark ≡ markOf (length sheet) (symbolOf symbol) next end → ChildrenPassed table rows inherited synthesized offsets ks vs sheet p at from d marks₀ (k + 1) n₁ e₁ (set marks (k + 1) mark)
+        pub passed-more : (n₁ e₁ : ℕ) → r ≡ Fits n₁ e₁ → k + 1 < positionsLimit → (mark : ℕ) → mark ≡ markOf (length sheet) (symbolOf symbol) next end → ChildrenPassed table rows inherited synthesized offsets ks vs sheet p at from d marks₀ (k + 1) n₁ e₁ (set marks (k + 1) mark)
         passed-more n₁ e₁ w short mark em = record {
           long = length-set marks (k + 1) mark ∙ s .long;
           own = getD-set-other marks (k + 1) 0 mark 0 (λ q. omega arith) ∙ s .own;

@@ -2,6 +2,8 @@
 ghost use Prim.Native.Nat.{_+_, _-_, _<_, _≤_};
 ghost use mathlib.Core.Path.{_≡_};
 ghost use lib.ListN.{length};
+ghost use Rattle.meaning.specs.Grammar.{nonterminalBase};
+ghost use Rattle.meaning.specs.Limits.{attributesLimit, productionsLimit};
 ghost use Rattle.meaning.specs.Table.{byte, symbolOf};
 ghost use Rattle.outline.specs.Images.{HasRow, rowCount};
 ghost use Rattle.program_words.specs.Fields.{fieldsFrom, stretchEnd};
@@ -50,7 +52,7 @@ pub fn holds(
     marks: &[usize],
     p: usize,
 ) -> bool
-    requires { ⌜ (p < 128) × (fieldsFrom (now rows) (now offsets) p ≤ stretchEnd (now table) (now offsets) (rowCount (now rows)) p) × (stretchEnd (now table) (now offsets) (rowCount (now rows)) p ≤ length (now table))
+    requires { ⌜ (p < productionsLimit) × (fieldsFrom (now rows) (now offsets) p ≤ stretchEnd (now table) (now offsets) (rowCount (now rows)) p) × (stretchEnd (now table) (now offsets) (rowCount (now rows)) p ≤ length (now table))
         × Listed (fieldsOf (now table) (now rows) (now offsets) p) × HasRow (now rows) p ⌝ }
     ensures { λ r. ⌜ ((x : Listed (fieldsOf (now (table .entry)) (now (rows .entry)) (now (offsets .entry)) p)) → r ≡ listedTrue (readAt (now (sheet .entry)) (now (values .entry)) (now (marks .entry))) x) ⌝ }
 {
@@ -112,7 +114,7 @@ pub fn begin(
     sheet: &[u8],
     tree: Subtree,
 ) -> Begun
-    requires { ⌜ (128 ≤ tree .symbol → byte (now inherited) (tree .symbol - 128) + byte (now synthesized) (tree .symbol - 128) ≤ 8) ⌝ }
+    requires { ⌜ (nonterminalBase ≤ tree .symbol → byte (now inherited) (tree .symbol - nonterminalBase) + byte (now synthesized) (tree .symbol - nonterminalBase) ≤ attributesLimit) ⌝ }
     ensures { λ r. ⌜ Begins (now (rows .entry)) (now (inherited .entry)) (now (synthesized .entry)) (now (kinds .entry)) (now (values .entry)) (now (sheet .entry)) tree r ⌝ }
 {
     if tree.symbol < 128 {

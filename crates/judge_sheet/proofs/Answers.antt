@@ -5,7 +5,8 @@ use mathlib.Core.Path.{_≡_, sym, ap, _∙_, subst}
 use mathlib.Core.List.{List}
 use lib.ListN.{length}
 use lib.IntN.{ℤ}
-use Rattle.meaning.specs.Grammar.{Grammar, nonterminal, syn}
+use Rattle.meaning.specs.Limits.{attributesLimit, depthLimit}
+use Rattle.meaning.specs.Grammar.{Grammar, nonterminal, syn, nonterminalBase}
 use Rattle.meaning.specs.Rules.{Known}
 use Rattle.meaning.specs.Table.{symbolOf}
 use Rattle.theory_base.specs.WellFormed.{counts-most}
@@ -29,27 +30,27 @@ module _ {table rows inherited synthesized offsets ks : List ℕ} {vs : List ℤ
   pub result-small : result < 256
   result-small = omega (arith, y .isResult, y .book .productions .rowsOf .sound .result .1, counts-few)
     where
-      counts-few : syn g (nonterminal (g .start)) ≤ 8
+      counts-few : syn g (nonterminal (g .start)) ≤ attributesLimit
       counts-few = omega (arith, counts-most g (y .book .productions .rowsOf .sound) (g .start))
 
-  pub start-is : symbolOf (128 + start) ≡ nonterminal (g .start)
-  start-is = symbol-nonterminal (128 + start) (omega arith) ∙ ap nonterminal (omega (arith, y .isStart))
+  pub start-is : symbolOf (nonterminalBase + start) ≡ nonterminal (g .start)
+  start-is = symbol-nonterminal (nonterminalBase + start) (omega arith) ∙ ap nonterminal (omega (arith, y .isStart))
 
-  abbrev pub root-ready : NodeReady table rows inherited synthesized offsets ks vs sheet 0 (128 + start)
+  abbrev pub root-ready : NodeReady table rows inherited synthesized offsets ks vs sheet 0 (nonterminalBase + start)
   root-ready = record { book = y .book; known = subst (Known g) (sym start-is) (y .book .productions .rowsOf .sound .start); low = omega arith }
 
   few-leaves : length (leavesIn g ks vs) < 4294967296
   few-leaves = omega (arith, leaves-many g ks vs (y .book .even), y .book .few)
 
-  module _ (r : Answer.Answer) (t : NodeEnds table rows inherited synthesized offsets ks vs sheet 0 0 (128 + start) 1023 r) where
-    ends-there : EndsOrNone (Described g (leavesIn g ks vs) sheet 0 0 (nonterminal (g .start)) 1023) r
-    ends-there = subst (λ z. EndsOrNone (Described g (leavesIn g ks vs) sheet 0 0 z 1023) r) start-is (t root-ready)
+  module _ (r : Answer.Answer) (t : NodeEnds table rows inherited synthesized offsets ks vs sheet 0 0 (nonterminalBase + start) depthLimit r) where
+    ends-there : EndsOrNone (Described g (leavesIn g ks vs) sheet 0 0 (nonterminal (g .start)) depthLimit) r
+    ends-there = subst (λ z. EndsOrNone (Described g (leavesIn g ks vs) sheet 0 0 z depthLimit) r) start-is (t root-ready)
 
     pub sheet-wrong : r ≡ Wrong → Settles g (leavesIn g ks vs) sheet (turnedBack 43 0)
     sheet-wrong w = settles-none g (y .book .productions .rowsOf .sound) ks vs sheet (none-wrong g (y .book .productions .rowsOf .sound) ks vs sheet (none-of-wrong _ r ends-there w))
 
     module _ (n e : ℕ) (f : r ≡ Fits n e) where
-      only : Only (Described g (leavesIn g ks vs) sheet 0 0 (nonterminal (g .start)) 1023) n e
+      only : Only (Described g (leavesIn g ks vs) sheet 0 0 (nonterminal (g .start)) depthLimit) n e
       only = ends-of-fits r n e ends-there f
 
       pub sheet-longer : (n ≡ length sheet → ⊥) → Settles g (leavesIn g ks vs) sheet (turnedBack 43 0)

@@ -3,6 +3,8 @@ use Prim.Native.Nat.{ℕ, _+_}
 use mathlib.Core.Path.{_≡_}
 use mathlib.Core.List.{List}
 use lib.IntN.{ℤ}
+use Rattle.meaning.specs.Limits.{depthLimit}
+use Rattle.meaning.specs.Grammar.{nonterminalBase}
 use Rattle.meaning_judge.specs.Judge.{JudgeAnswer, worth, turnedBack, Settles}
 use Rattle.outline.specs.Outline.{grammarIn}
 use Rattle.judge_parts.specs.Checked.{Book, leavesIn, NodeEnds}
@@ -30,4 +32,4 @@ SheetSettled table rows inherited synthesized offsets ks vs sheet start result r
 abbrev pub RootSettled : List ℕ → List ℤ → List ℕ → ℕ → Answer.Answer → Judgement → Type 0
 RootSettled ks vs sheet result a r =
     (table rows inherited synthesized offsets : List ℕ) (start : ℕ) (x : SheetReady table rows inherited synthesized offsets ks vs sheet start result)
-    → NodeEnds table rows inherited synthesized offsets ks vs sheet 0 0 (128 + start) 1023 a → Settles (grammarIn table) (leavesIn (grammarIn table) ks vs) sheet (judgementIs r)
+    → NodeEnds table rows inherited synthesized offsets ks vs sheet 0 0 (nonterminalBase + start) depthLimit a → Settles (grammarIn table) (leavesIn (grammarIn table) ks vs) sheet (judgementIs r)

@@ -1,4 +1,4 @@
-// The limits and fixed numbers of document 01 that the code names, each in this one place. Those of values stand in `value`, that of candidates in `rank_suits`, that of a window in `window`.
+// The limits and fixed numbers of document 01 that the code names, each in this one place. Those of values stand in `value`.
 
 // ---- a table
 
@@ -71,3 +71,14 @@ pub const UNFIT: u32 = 34;
 
 // The longest line of a listing.
 pub const LINE: usize = 64;
+
+// ---- a ranking and a window
+
+// 02 (b): "up to 512 candidate segments".
+pub const CANDIDATES: usize = 512;
+
+// 02 (k): a size "outside 1 to 64" is a 42.
+pub const WINDOW: usize = 64;
+
+// What a cell without a number up to that is read as; and so many slots have the leaders, with that of the value that comes.
+pub const PAST_WINDOW: usize = WINDOW + 1;

@@ -4,7 +4,8 @@ use mathlib.Core.Bool.{Bool, true, false, _&&_, not}
 use mathlib.Core.List.{List, [], _∷_}
 use lib.ListN.{getD}
 use lib.Dec.{eqb, ltb, leb}
-use Rattle.meaning.specs.Limits.{areaLength}
+use Rattle.meaning.specs.Program.{addOperation, testOperation, evaluateOperation}
+use Rattle.meaning.specs.Limits.{areaLength, symbolsLimit}
 use Rattle.meaning.specs.Listing.{Text}
 use Rattle.theory_program.specs.Parts.{headOperation, headOperand}
 use Rattle.theory_program.specs.Unpacked.{ruleFrom, conditionFrom}
@@ -35,11 +36,11 @@ abbrev pub goOn : Cursor → ℕ → Bool → ℕ → ℕ → Cursor
 goOn c k r n a = record { production = c .production; passed = k; rules = r; left = n; at = a }
 
 abbrev pub insideOf : List ℕ → Cursor → Bool
-insideOf ws c = ltb (c .production) (wordAt ws 6) && (ltb (c .at) areaLength && leb (c .passed) 12)
+insideOf ws c = ltb (c .production) (wordAt ws 6) && (ltb (c .at) areaLength && leb (c .passed) symbolsLimit)
 
 -- an evaluate, an expect or a test stands there: it has no line of its own
 abbrev pub silent : ℕ → Bool
-silent operation = not (eqb operation 0) && leb operation 4
+silent operation = not (eqb operation addOperation) && leb operation testOperation
 
 unfoldable pub skipsOf : List ℕ → Cursor → Bool
 skipsOf ws c = not (ltb 0 (c .left)) && (insideOf ws c && silent (operationAt ws c))
@@ -51,7 +52,7 @@ skippedBy false true c n = goOn c (c .passed) false n (c .at + 1)
 skippedBy false false c n = goOn c (c .passed + 1) false 0 (c .at + 1)
 
 abbrev pub skipped : List ℕ → Cursor → Cursor
-skipped ws c = skippedBy (eqb (operationAt ws c) 1) (eqb (operationAt ws c) 4) c (operandAt ws c)
+skipped ws c = skippedBy (eqb (operationAt ws c) evaluateOperation) (eqb (operationAt ws c) testOperation) c (operandAt ws c)
 
 -- ---- the line of the item or instruction at hand, and the cursor behind it
 
@@ -95,7 +96,7 @@ abbrev pub itemStep : List ℕ → Cursor → NextLine
 itemStep ws c = pickStep (c .rules) (emit (ruleHere ws c) (behindRule c)) (emit (conditionHere ws c) (behindCondition c))
 
 abbrev pub headStep : List ℕ → Cursor → NextLine
-headStep ws c = pickStep (eqb (operationAt ws c) 0) (emit (addHere ws c) (behindAdd c)) (emit (removeHere ws c) (startOf ws (c .production + 1)))
+headStep ws c = pickStep (eqb (operationAt ws c) addOperation) (emit (addHere ws c) (behindAdd c)) (emit (removeHere ws c) (startOf ws (c .production + 1)))
 
 unfoldable pub stepOf : List ℕ → Cursor → NextLine
 stepOf ws c = pickStep (skipsOf ws c) (skip (skipped ws c)) (pickStep (insideOf ws c) (pickStep (ltb 0 (c .left)) (itemStep ws c) (headStep ws c)) stop)

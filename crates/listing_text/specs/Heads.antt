@@ -13,7 +13,7 @@ use Rattle.meaning.specs.Limits.{areaLength}
 use Rattle.meaning.specs.Grammar.{Symbol, terminal, nonterminal, Grammar}
 use Rattle.meaning.specs.Scheme.{Instruction, add, evaluate, expect, test, remove}
 use Rattle.meaning.specs.Machine.{expects}
-use Rattle.meaning.specs.Program.{instructionWords, schemeWords}
+use Rattle.meaning.specs.Program.{instructionWords, schemeWords, addOperation, removeOperation, evaluateOperation, testOperation}
 use Rattle.meaning.specs.Listing.{Text}
 use Rattle.theory_program.specs.WordsStand.{stands-at, stands-left}
 use Rattle.theory_program.specs.Parts.{headOperand}
@@ -122,10 +122,10 @@ module _ {g : Grammar} {ws : List ℕ} {c : Cursor} where
 
 -- ---- an instruction without a line
 
-no-line : (w : ℕ) → silent w ≡ true → (w ≡ 0 → ⊥) × (w ≡ 5 → ⊥)
+no-line : (w : ℕ) → silent w ≡ true → (w ≡ addOperation → ⊥) × (w ≡ removeOperation → ⊥)
 no-line w e = ((λ f. subst T (sym (sym (ap silent f) ∙ e)) tt), (λ f. subst T (sym (sym (ap silent f) ∙ e)) tt))
 
-of-expect : (x : Symbol) → (operation (expect x) ≡ 1 → ⊥) × (operation (expect x) ≡ 4 → ⊥)
+of-expect : (x : Symbol) → (operation (expect x) ≡ evaluateOperation → ⊥) × (operation (expect x) ≡ testOperation → ⊥)
 of-expect (terminal t) = ((λ e. omega arith), (λ e. omega arith))
 of-expect (nonterminal n) = ((λ e. omega arith), (λ e. omega arith))
 
@@ -133,11 +133,11 @@ module _ {g : Grammar} {ws : List ℕ} {c : Cursor} where
   pub on-silent : (is : List Instruction) {ls : List Text} → silent (operationAt ws c) ≡ true → AtHead g ws c is ls → Pending g ws (skipped ws c) ls
   on-silent [] t h = absurd (h .unread .ends)
   on-silent (add m ∷ is) t h = absurd (no-line (operationAt ws c) t .0 (code-head (h .code) .0))
-  on-silent (evaluate rs ∷ is) t h = rw (eq-eqb (operationAt ws c) 1 (code-head (h .code) .0)) (on-items (rules rs) h)
+  on-silent (evaluate rs ∷ is) t h = rw (eq-eqb (operationAt ws c) evaluateOperation (code-head (h .code) .0)) (on-items (rules rs) h)
   on-silent (expect x ∷ is) t h =
       let e : operationAt ws c ≡ operation (expect x) = code-head (h .code) .0 in
-      rw (ne-eqb (operationAt ws c) 1 (λ f. of-expect x .0 (sym e ∙ f)), ne-eqb (operationAt ws c) 4 (λ f. of-expect x .1 (sym e ∙ f))) (on-expect h)
+      rw (ne-eqb (operationAt ws c) evaluateOperation (λ f. of-expect x .0 (sym e ∙ f)), ne-eqb (operationAt ws c) testOperation (λ f. of-expect x .1 (sym e ∙ f))) (on-expect h)
   on-silent (test cs ∷ is) t h =
-      let e : operationAt ws c ≡ 4 = code-head (h .code) .0 in
-      rw (ne-eqb (operationAt ws c) 1 (λ f. omega arith), eq-eqb (operationAt ws c) 4 e) (on-items (conditions cs) h)
+      let e : operationAt ws c ≡ testOperation = code-head (h .code) .0 in
+      rw (ne-eqb (operationAt ws c) evaluateOperation (λ f. omega arith), eq-eqb (operationAt ws c) testOperation e) (on-items (conditions cs) h)
   on-silent (remove m ∷ is) t h = absurd (no-line (operationAt ws c) t .1 (code-head (h .code) .0))

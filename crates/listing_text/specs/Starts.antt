@@ -9,7 +9,7 @@ use borrow.Author.Tests.{lt-ltb, le-ltb, le-leb}
 use lib.ListN.{length, getD, drop, drop-of-length-le}
 use lib.Seq.{drop-cons}
 use lib.Dec.{ltb}
-use Rattle.meaning.specs.Limits.{areaLength}
+use Rattle.meaning.specs.Limits.{areaLength, symbolsLimit}
 use Rattle.meaning.specs.Base.{consIf, isEmpty}
 use Rattle.meaning.specs.Grammar.{Symbol, Production, Grammar, addedFor, productionAt, wholeProduction}
 use Rattle.meaning.specs.Rules.{WellFormed}
@@ -73,7 +73,7 @@ module _ {g : Grammar} {ws : List ℕ} (w : WellFormed g) (b : Begins g ws) wher
   pub inside-some : {c : Cursor} {items : Items} {is : List Instruction} {ls : List Text} → Inside g ws c items is ls → insideOf ws c ≡ true
   inside-some {c} {items} {is} h =
       let few = w .each (productionAt g (c .production)) (production-in g w (c .production) (h .unread .listed)) .short in
-      rw (lt-ltb (c .production) (wordAt ws 6) (omega (arith, h .unread .listed, segment-words b .productions)), lt-ltb (c .at) areaLength (omega (arith, h .fits, ends-words is (h .unread .ends))), le-leb (c .passed) 12 (omega (arith, h .unread .passed)))
+      rw (lt-ltb (c .production) (wordAt ws 6) (omega (arith, h .unread .listed, segment-words b .productions)), lt-ltb (c .at) areaLength (omega (arith, h .fits, ends-words is (h .unread .ends))), le-leb (c .passed) symbolsLimit (omega (arith, h .unread .passed)))
 
   pub inside-none : (c : Cursor) → c .production ≡ length (g .productions) → insideOf ws c ≡ false
   inside-none c e = rw (le-ltb (c .production) (wordAt ws 6) (omega (arith, segment-words b .productions)))

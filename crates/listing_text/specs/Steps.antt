@@ -9,6 +9,7 @@ use mathlib.Core.List.{List, [], _∷_, _++_}
 use lib.ListN.{length}
 use borrow.Author.Tests.{ltb-true, ltb-false, eqb-true, eqb-false}
 use lib.Dec.{T, eqb, ltb}
+use Rattle.meaning.specs.Program.{addOperation}
 use Rattle.meaning.specs.Grammar.{terminal, nonterminal, Grammar}
 use Rattle.meaning.specs.Rules.{WellFormed}
 use Rattle.meaning.specs.Scheme.{Instruction, add, evaluate, expect, test, remove}
@@ -50,7 +51,7 @@ module _ {g : Grammar} {ws : List ℕ} (w : WellFormed g) (b : Begins g ws) (c :
   pending-skip e (none p f) = absurd (outside w b c (skips-facts ws c e .inside) p)
   pending-skip e (some items is h) = let s = skips-facts ws c e in on-silent is (s .quiet) (head-of items h (s .none))
 
-  at-add : (is : List Instruction) → AtHead g ws c is ls → operationAt ws c ≡ 0 → First g ws ls (addHere ws c) (behindAdd c)
+  at-add : (is : List Instruction) → AtHead g ws c is ls → operationAt ws c ≡ addOperation → First g ws ls (addHere ws c) (behindAdd c)
   at-add [] h e = absurd (h .unread .ends)
   at-add (add m ∷ is) h e = let f = on-add h in record { rest = f .0; lines = f .1; pending = f .2 }
   at-add (evaluate rs ∷ is) h e = absurd (omega (arith, code-head (h .code) .0))
@@ -59,7 +60,7 @@ module _ {g : Grammar} {ws : List ℕ} (w : WellFormed g) (b : Begins g ws) (c :
   at-add (test cs ∷ is) h e = absurd (omega (arith, code-head (h .code) .0))
   at-add (remove m ∷ is) h e = absurd (omega (arith, code-head (h .code) .0))
 
-  at-remove : (is : List Instruction) → AtHead g ws c is ls → (operationAt ws c ≡ 0 → ⊥) → silent (operationAt ws c) ≡ false → First g ws ls (removeHere ws c) (startOf ws (c .production + 1))
+  at-remove : (is : List Instruction) → AtHead g ws c is ls → (operationAt ws c ≡ addOperation → ⊥) → silent (operationAt ws c) ≡ false → First g ws ls (removeHere ws c) (startOf ws (c .production + 1))
   at-remove [] h e q = absurd (h .unread .ends)
   at-remove (add m ∷ is) h e q = absurd (e (code-head (h .code) .0))
   at-remove (evaluate rs ∷ is) h e q = absurd (subst T (sym (ap silent (code-head (h .code) .0)) ∙ q) tt)
@@ -69,11 +70,11 @@ module _ {g : Grammar} {ws : List ℕ} (w : WellFormed g) (b : Begins g ws) (c :
   at-remove (remove m ∷ is) h e q = record { rest = later g c; lines = on-remove h; pending = subst (λ i. Pending g ws (startOf ws i) (later g c)) (sym (add-one (c .production))) (pending-start w b (suc (c .production)) (h .unread .listed)) }
 
   module _ (inside : insideOf ws c ≡ true) (alone : c .left ≡ 0) where
-    pub pending-add : operationAt ws c ≡ 0 → Pending g ws c ls → First g ws ls (addHere ws c) (behindAdd c)
+    pub pending-add : operationAt ws c ≡ addOperation → Pending g ws c ls → First g ws ls (addHere ws c) (behindAdd c)
     pending-add e (none p f) = absurd (outside w b c inside p)
     pending-add e (some items is h) = at-add is (head-of items h alone) e
 
-    pub pending-remove : (operationAt ws c ≡ 0 → ⊥) → skipsOf ws c ≡ false → Pending g ws c ls → First g ws ls (removeHere ws c) (startOf ws (c .production + 1))
+    pub pending-remove : (operationAt ws c ≡ addOperation → ⊥) → skipsOf ws c ≡ false → Pending g ws c ls → First g ws ls (removeHere ws c) (startOf ws (c .production + 1))
     pending-remove e q (none p f) = absurd (outside w b c inside p)
     pending-remove e q (some items is h) = at-remove is (head-of items h alone) e (is-loud ws c inside alone q)
 
@@ -146,9 +147,9 @@ module _ {g : Grammar} {ws : List ℕ} (w : WellFormed g) (b : Begins g ws) wher
     follows-head : c .left ≡ 0 → skipsOf ws c ≡ false → Follows g ws ls (headStep ws c)
     follows-head alone loud =
         let operation = operationAt ws c in
-        follows-pick g ws ls (eqb operation 0) (emit (addHere ws c) (behindAdd c)) (emit (removeHere ws c) (startOf ws (c .production + 1)))
-        (λ e. pending-add w b c inside alone (eqb-true operation 0 e) p)
-        (λ e. pending-remove w b c inside alone (eqb-false operation 0 e) loud p)
+        follows-pick g ws ls (eqb operation addOperation) (emit (addHere ws c) (behindAdd c)) (emit (removeHere ws c) (startOf ws (c .production + 1)))
+        (λ e. pending-add w b c inside alone (eqb-true operation addOperation e) p)
+        (λ e. pending-remove w b c inside alone (eqb-false operation addOperation e) loud p)
 
   follows : (c : Cursor) (ls : List Text) → Pending g ws c ls → Follows g ws ls (stepOf ws c)
   unfolding stepOf

@@ -3,11 +3,13 @@ ghost use Prim.Native.Nat.{_+_, _<_, _≤_};
 ghost use mathlib.Core.Path.{_≡_};
 ghost use mathlib.Core.Bool.{true, false};
 ghost use lib.ListN.{length};
-ghost use Rattle.meaning.specs.Limits.{areaLength};
+ghost use Rattle.meaning.specs.Limits.{areaLength, symbolsLimit};
 ghost use Rattle.listing_lines.specs.Line.{addLine, removeLine};
-ghost use Rattle.listing_text.specs.Cursors.{wordAt, recordWord, startOf, goOn, insideOf, skipsOf, skipped, positionOf, ruleHere, behindRule, conditionHere, behindCondition, behindAdd, linesLeft};
+ghost use Rattle.listing_text.specs.Cursors.{recordWord, startOf, goOn, insideOf, skipsOf, skipped, positionOf, ruleHere, behindRule, conditionHere, behindCondition, behindAdd, linesLeft};
 ghost use Rattle.listing_text.specs.LineOut.{Emits, FirstLineOrOver, BeforeAll};
 use limits::AREA;
+use value::index_of;
+use value::word_or_zero;
 
 // 01: "right-side length (0 to 12)".
 const SYMBOLS: u32 = limits::SYMBOLS as u32;
@@ -37,31 +39,15 @@ pub struct Line {
 
 // ---- words
 
-fn wide(x: u32) -> usize
-    ensures { λ r. ⌜ (r ≡ x) × (r < 4294967296) ⌝ }
-{
-    x as usize
-}
-
-// 0 past the end.
-fn word(program: &[u32], at: usize) -> u32
-    ensures { λ r. ⌜ r ≡ wordAt (now (program .entry)) at ⌝ }
-{
-    if program.len() <= at {
-        return 0;
-    }
-    program[at]
-}
-
 // Word k of a production's record.
 fn record_word(program: &[u32], production: u32, k: usize) -> u32
     requires { ⌜ k < 8 ⌝ }
     ensures { λ r. ⌜ r ≡ recordWord (now (program .entry)) production k ⌝ }
 {
-    let records = wide(word(program, program_parts::RECORDS));
-    word(
+    let records = index_of(word_or_zero(program, program_parts::RECORDS));
+    word_or_zero(
         program,
-        records + program_parts::RECORD_WORDS * wide(production) + k,
+        records + program_parts::RECORD_WORDS * index_of(production) + k,
     )
 }
 
@@ -71,8 +57,8 @@ fn record_word(program: &[u32], production: u32, k: usize) -> u32
 fn start(program: &[u32], production: u32) -> Cursor
     ensures { λ r. ⌜ r ≡ startOf (now (program .entry)) production ⌝ }
 {
-    let body = wide(record_word(program, production, program_parts::BODY));
-    let symbols = wide(record_word(program, production, program_parts::SYMBOLS));
+    let body = index_of(record_word(program, production, program_parts::BODY));
+    let symbols = index_of(record_word(program, production, program_parts::SYMBOLS));
     let tests = record_word(program, production, program_parts::TESTS);
     Cursor {
         production: production,
@@ -105,7 +91,7 @@ fn go_on(c: Cursor, passed: u32, rules: bool, left: u32, at: usize) -> Cursor
 fn is_inside(program: &[u32], c: Cursor) -> bool
     ensures { λ r. ⌜ (r ≡ insideOf (now (program .entry)) c) × (r ≡ true → c .production < 4294967295) ⌝ }
 {
-    if word(program, program_parts::PRODUCTIONS) <= c.production {
+    if word_or_zero(program, program_parts::PRODUCTIONS) <= c.production {
         return false;
     }
     if AREA <= c.at {
@@ -124,7 +110,7 @@ fn is_silent(program: &[u32], c: Cursor) -> bool
     if !is_inside(program, c) {
         return false;
     }
-    let operation = program_parts::operation(wide(word(program, c.at)));
+    let operation = program_parts::operation(index_of(word_or_zero(program, c.at)));
     if operation == operations::ADD {
         return false;
     }
@@ -133,10 +119,10 @@ fn is_silent(program: &[u32], c: Cursor) -> bool
 
 // Behind that instruction: at its items, or past its symbol.
 fn pass(program: &[u32], c: Cursor) -> Cursor
-    requires { ⌜ (c .at < areaLength) × (c .passed ≤ 12) ⌝ }
+    requires { ⌜ (c .at < areaLength) × (c .passed ≤ symbolsLimit) ⌝ }
     ensures { λ r. ⌜ r ≡ skipped (now (program .entry)) c ⌝ }
 {
-    let head = wide(word(program, c.at));
+    let head = index_of(word_or_zero(program, c.at));
     let operation = program_parts::operation(head);
     let items = program_parts::operand(head) as u32;
     if operation == operations::EVALUATE {
@@ -177,8 +163,8 @@ fn rule(program: &[u32], c: Cursor, out: &mut [u8]) -> Line
     ensures { λ r. ⌜ Emits (now (out .entry)) (now (out .exit)) r (ruleHere (now (program .entry)) c) (behindRule c) ⌝ }
 {
     let k = position(program, c);
-    let w = word(program, c.at);
-    let constant = word(program, c.at + 1);
+    let w = word_or_zero(program, c.at);
+    let constant = word_or_zero(program, c.at + 1);
     let length = listing_lines::rule_line(out, c.production, k, w, constant);
     let next = go_on(
         c,
@@ -198,9 +184,9 @@ fn condition(program: &[u32], c: Cursor, out: &mut [u8]) -> Line
     requires { ⌜ (c .at < areaLength) × (0 < c .left) × (64 ≤ length (now out)) ⌝ }
     ensures { λ r. ⌜ Emits (now (out .entry)) (now (out .exit)) r (conditionHere (now (program .entry)) c) (behindCondition c) ⌝ }
 {
-    let w = word(program, c.at);
-    let low = word(program, c.at + 1);
-    let high = word(program, c.at + 2);
+    let w = word_or_zero(program, c.at);
+    let low = word_or_zero(program, c.at + 1);
+    let high = word_or_zero(program, c.at + 2);
     let length = listing_lines::condition_line(out, c.production, c.passed, w, low, high);
     let next = go_on(
         c,
@@ -217,7 +203,7 @@ fn condition(program: &[u32], c: Cursor, out: &mut [u8]) -> Line
 }
 
 fn add(c: Cursor, registers: u32, out: &mut [u8]) -> Line
-    requires { ⌜ (c .at < areaLength) × (c .passed ≤ 12) × (64 ≤ length (now out)) ⌝ }
+    requires { ⌜ (c .at < areaLength) × (c .passed ≤ symbolsLimit) × (64 ≤ length (now out)) ⌝ }
     ensures { λ r. ⌜ Emits (now (out .entry)) (now (out .exit)) r (addLine (c .production) (c .passed + 1) registers) (behindAdd c) ⌝ }
 {
     let length = listing_lines::add_line(out, c.production, c.passed + 1, registers);
@@ -271,7 +257,7 @@ pub fn next_line(program: &[u32], cursor: Cursor, out: &mut [u8]) -> Line
         }
         return condition(program, c, out);
     }
-    let head = wide(word(program, c.at));
+    let head = index_of(word_or_zero(program, c.at));
     let registers = program_parts::operand(head) as u32;
     if program_parts::operation(head) == operations::ADD {
         return add(c, registers, out);

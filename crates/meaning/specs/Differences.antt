@@ -7,6 +7,7 @@ use lib.ListN.{getD, set}
 use lib.Dec.{ltb}
 use lib.IntN.{ℤ, pos, negℤ, _+ℤ_}
 use lib.Signed.{leZ, ltZ}
+use Rattle.meaning.specs.Limits.{attributesLimit}
 use Rattle.meaning.specs.Base.{all, countFrom}
 use Rattle.meaning.specs.Grammar.{Condition, range, atmost}
 use Rattle.meaning.specs.Value.{highest, added}
@@ -62,7 +63,7 @@ closing m zero = m
 closing m (suc k) = closing (eliminated m (suc k)) k
 
 unfoldable pub closed : List ℤ → List ℤ
-closed m = closing m 8
+closed m = closing m attributesLimit
 
 -- a negative entry on the diagonal is a cycle with a negative sum
 abbrev pub noneNegative : List ℤ → Bool

@@ -1,6 +1,5 @@
 -- The limits of document 01, each in this one place. (Those of values stand in Value, those of constants in Rules, that of a window in Window.)
-use Prim.Native.Nat.{ℕ}
-use lib.IntN.{ℤ, pos}
+use Prim.Native.Nat.{ℕ, _+_}
 
 -- ---- a table
 
@@ -26,6 +25,10 @@ productionsLimit = 128
 abbrev pub symbolsLimit : ℕ
 symbolsLimit = 12
 
+-- a production's positions: 0 is its left side, from 1 on are the symbols of its right side
+abbrev pub positionsLimit : ℕ
+positionsLimit = symbolsLimit + 1
+
 -- "At most 1,024 rules", of conditions "At most 512"
 abbrev pub rulesLimit : ℕ
 rulesLimit = 1024
@@ -34,8 +37,8 @@ abbrev pub conditionsLimit : ℕ
 conditionsLimit = 512
 
 -- "quot a c, toward zero, c from 1 to 1,000,000"
-abbrev pub divisorLimit : ℤ
-divisorLimit = pos 1000000
+abbrev pub divisorLimit : ℕ
+divisorLimit = 1000000
 
 -- ---- a run
 
@@ -45,6 +48,10 @@ registersLimit = 4096
 
 abbrev pub placesLimit : ℕ
 placesLimit = 1024
+
+-- 02 (i): "depth is at most 1,023, the root being at depth 1": the whole segment has one of the places
+abbrev pub depthLimit : ℕ
+depthLimit = 1023
 
 -- "A program area of at least 16,384 32-bit words is lent"
 abbrev pub areaLength : ℕ
@@ -56,6 +63,12 @@ tokensLimit = 65535
 
 abbrev pub movesLimit : ℕ
 movesLimit = 4294967295
+
+-- ---- a ranking
+
+-- 02 (b): "up to 512 candidate segments"
+abbrev pub candidatesLimit : ℕ
+candidatesLimit = 512
 
 -- ---- numbers of 32 bits
 

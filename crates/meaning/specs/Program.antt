@@ -40,18 +40,46 @@ conditionWords (range a l h) = packed a 0 0 0 ∷ unsigned l ∷ unsigned h ∷ 
 conditionWords (atmost a b none) = packed a 1 b 0 ∷ 0 ∷ 0 ∷ []
 conditionWords (atmost a b (some c)) = packed a 2 b 0 ∷ unsigned c ∷ 0 ∷ []
 
--- ---- instructions: a head word, the operation's number plus 8 times its operand, and the items of an evaluate or a test
+-- ---- the numbers of the operations; an expect is a read or a predict
+
+abbrev pub addOperation : ℕ
+addOperation = 0
+
+abbrev pub evaluateOperation : ℕ
+evaluateOperation = 1
+
+abbrev pub readOperation : ℕ
+readOperation = 2
+
+abbrev pub predictOperation : ℕ
+predictOperation = 3
+
+abbrev pub testOperation : ℕ
+testOperation = 4
+
+abbrev pub removeOperation : ℕ
+removeOperation = 5
+
+-- nothing is left
+abbrev pub nothingOperation : ℕ
+nothingOperation = 6
+
+-- ---- instructions: a head word, and the items of an evaluate or a test
+
+-- the operation's number plus 8 times its operand
+abbrev pub headOf : ℕ → ℕ → ℕ
+headOf operation operand = operation + 8 * operand
 
 abbrev pub symbolHead : Symbol → ℕ
-symbolHead (terminal t) = 2 + 8 * t
-symbolHead (nonterminal n) = 3 + 8 * n
+symbolHead (terminal t) = headOf readOperation t
+symbolHead (nonterminal n) = headOf predictOperation n
 
 abbrev pub instructionWords : Instruction → ProgramWords
-instructionWords (add n) = (0 + 8 * n) ∷ []
-instructionWords (evaluate rs) = (1 + 8 * length rs) ∷ concat (map ruleWords rs)
+instructionWords (add n) = headOf addOperation n ∷ []
+instructionWords (evaluate rs) = headOf evaluateOperation (length rs) ∷ concat (map ruleWords rs)
 instructionWords (expect x) = symbolHead x ∷ []
-instructionWords (test cs) = (4 + 8 * length cs) ∷ concat (map conditionWords cs)
-instructionWords (remove n) = (5 + 8 * n) ∷ []
+instructionWords (test cs) = headOf testOperation (length cs) ∷ concat (map conditionWords cs)
+instructionWords (remove n) = headOf removeOperation n ∷ []
 
 abbrev pub schemeWords : List Instruction → ProgramWords
 schemeWords is = concat (map instructionWords is)
@@ -180,7 +208,7 @@ carriers g = map (λ t. any (eqb t) (g .carrying)) (countFrom 0 setSize)
 abbrev pub segmentWords : Grammar → ProgramWords
 segmentWords g =
     symbolHead (nonterminal (g .start))
-    ∷ 6
+    ∷ nothingOperation
     ∷ recordsAddress g
     ∷ g .terminals
     ∷ syn g (nonterminal (g .start))

@@ -72,7 +72,7 @@ Constant (const c) = InFourBytes c
 Constant (copy a) = Unit {0}
 Constant (binary f a b) = Unit {0}
 Constant (addc a c) = InFourBytes c
-Constant (quot a c) = T (leZ (pos 1) c) × T (leZ c divisorLimit)
+Constant (quot a c) = T (leZ (pos 1) c) × T (leZ c (pos divisorLimit))
 
 -- 10. 02 (j): "constants and range bounds remain four bytes" (d); "Number 10 keeps only low above high."
 abbrev pub Proper : Condition Occurrence → Type 0

@@ -7,6 +7,7 @@ use mathlib.Core.List.{List}
 use lib.ListN.{length}
 use lib.Dec.{eqb}
 use lib.IntN.{ℤ}
+use Rattle.meaning.specs.Limits.{depthLimit}
 use Rattle.meaning.specs.Grammar.{Grammar, Leaf, leaves, TableBytes, TokenKinds, TokenValues}
 use Rattle.meaning.specs.Table.{grammarOf}
 use Rattle.meaning.specs.Tree.{Tree, TreeOf, valueOf}
@@ -18,7 +19,7 @@ use Rattle.meaning_sheet.specs.Sheet.{sheetOf, SheetBytes}
 -- these bytes are the sheet of t, a tree of the segment us. A record counts tokens by four-byte unsigned numbers, so no sheet describes a segment of 4,294,967,296 tokens or more
 pub record Describes (g : Grammar) (us : List Leaf) (bytes : SheetBytes) (t : Tree) : Type 0 where
   pub tree : TreeOf g us t
-  pub shallow : depth t ≤ 1023
+  pub shallow : depth t ≤ depthLimit
   pub counted : length us < 4294967296
   pub written : sheetOf t ≡ bytes
 

@@ -5,6 +5,7 @@ use mathlib.Core.List.{List, [], _∷_, _++_}
 use lib.ListN.{length, take, drop}
 use lib.Dec.{eqb, ltb, leb}
 use lib.IntN.{ℤ, pos}
+use Rattle.meaning.specs.Limits.{candidatesLimit}
 use Rattle.meaning.specs.Base.{total}
 use Rattle.meaning.specs.Grammar.{Grammar, TableBytes, Area, ProgramBuilder, TokenKinds, TokenValues}
 use Rattle.meaning.specs.Table.{grammarOf}
@@ -80,7 +81,7 @@ rankEffect a list m area = record { answer = a; list = list; stacks = m; area = 
 
 -- 02: "More than 512 of them, lengths that don't add up to the list, or a list buffer with fewer entries than candidates, are turned back as 37"
 abbrev pub inOrder : Lengths → TokenKinds → ListBuffer → Bool
-inOrder lengths ks list = leb (length lengths) 512 && eqb (total lengths) (length ks) && leb (length lengths) (length list / 3)
+inOrder lengths ks list = leb (length lengths) candidatesLimit && eqb (total lengths) (length ks) && leb (length lengths) (length list / 3)
 
 -- the list in order, and past it the cells as they were
 abbrev pub listed : Evaluation → ListBuffer → Area → RankEffect

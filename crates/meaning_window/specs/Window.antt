@@ -107,10 +107,13 @@ written n k vs b = formOf n k vs ++ drop (formLength n) b
 abbrev pub windowLimit : ℕ
 windowLimit = 64
 
+abbrev pub pastWindow : ℕ
+pastWindow = suc windowLimit
+
 -- a number from 0 to 64, and 65 for anything else
 abbrev pub small : ℤ → ℕ
-small (pos m) = cond (leb m windowLimit) m (suc windowLimit)
-small (negsuc m) = suc windowLimit
+small (pos m) = cond (leb m windowLimit) m pastWindow
+small (negsuc m) = pastWindow
 
 abbrev pub numberAt : List ℤ → ℕ → ℕ
 numberAt b i = small (getD b i (pos 0))

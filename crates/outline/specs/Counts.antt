@@ -5,37 +5,37 @@ use mathlib.Core.Bool.{Bool, cond}
 use mathlib.Core.List.{List, [], _∷_}
 use lib.Dec.{ltb}
 use borrow.Author.Tests.{lt-ltb, le-ltb}
-use Rattle.meaning.specs.Grammar.{attributeIf}
+use Rattle.meaning.specs.Grammar.{attributeIf, nonterminalBase}
 use Rattle.meaning.specs.Sets.{has}
 use Rattle.meaning.specs.Table.{byte}
 use Rattle.token_set.specs.SetBits.{bit, setOf}
 
 -- a count of a symbol, 0 for a terminal
 unfoldable pub countAt : List ℕ → ℕ → ℕ
-countAt counts b = cond (ltb b 128) 0 (byte counts (b - 128))
+countAt counts b = cond (ltb b nonterminalBase) 0 (byte counts (b - nonterminalBase))
 
 -- a symbol's synthesized count, where a word holds the terminals that carry a value. 02 (e): "names a terminal with one synthesized
 -- attribute"; another terminal has none
 unfoldable pub synthesizedAt : ℕ → List ℕ → ℕ → ℕ
-synthesizedAt carrying counts b = cond (ltb b 128) (attributeIf (has (setOf carrying) b)) (byte counts (b - 128))
+synthesizedAt carrying counts b = cond (ltb b nonterminalBase) (attributeIf (has (setOf carrying) b)) (byte counts (b - nonterminalBase))
 
 -- ---- by the tests that the code makes
 
-pub count-terminal : (counts : List ℕ) (b : ℕ) → b < 128 → 0 ≡ countAt counts b
+pub count-terminal : (counts : List ℕ) (b : ℕ) → b < nonterminalBase → 0 ≡ countAt counts b
 unfolding countAt
-count-terminal counts b l = rw (lt-ltb b 128 l)
+count-terminal counts b l = rw (lt-ltb b nonterminalBase l)
 
-pub count-nonterminal : (counts : List ℕ) (b r : ℕ) → 128 ≤ b → r ≡ byte counts (b - 128) → r ≡ countAt counts b
+pub count-nonterminal : (counts : List ℕ) (b r : ℕ) → nonterminalBase ≤ b → r ≡ byte counts (b - nonterminalBase) → r ≡ countAt counts b
 unfolding countAt
-count-nonterminal counts b r l e = rw (le-ltb b 128 l) e
+count-nonterminal counts b r l e = rw (le-ltb b nonterminalBase l) e
 
-pub synthesized-terminal : (carrying : ℕ) (counts : List ℕ) (b : ℕ) {c d : Bool} → b < 128 → c ≡ has (setOf carrying) b → c ≡ d → attributeIf d ≡ synthesizedAt carrying counts b
+pub synthesized-terminal : (carrying : ℕ) (counts : List ℕ) (b : ℕ) {c d : Bool} → b < nonterminalBase → c ≡ has (setOf carrying) b → c ≡ d → attributeIf d ≡ synthesizedAt carrying counts b
 unfolding synthesizedAt
-synthesized-terminal carrying counts b l e q = rw (lt-ltb b 128 l) (ap attributeIf (sym q ∙ e))
+synthesized-terminal carrying counts b l e q = rw (lt-ltb b nonterminalBase l) (ap attributeIf (sym q ∙ e))
 
-pub synthesized-nonterminal : (carrying : ℕ) (counts : List ℕ) (b r : ℕ) → 128 ≤ b → r ≡ countAt counts b → r ≡ synthesizedAt carrying counts b
+pub synthesized-nonterminal : (carrying : ℕ) (counts : List ℕ) (b r : ℕ) → nonterminalBase ≤ b → r ≡ countAt counts b → r ≡ synthesizedAt carrying counts b
 unfolding countAt synthesizedAt
-synthesized-nonterminal carrying counts b r l e = rw (le-ltb b 128 l) (rw (le-ltb b 128 l) at e)
+synthesized-nonterminal carrying counts b r l e = rw (le-ltb b nonterminalBase l) (rw (le-ltb b nonterminalBase l) at e)
 
 -- ---- computed: terminals 0 and 2 carry a value, and nonterminal 1 has a count of 3
 

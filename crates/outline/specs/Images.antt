@@ -9,16 +9,25 @@ use mathlib.Core.List.{List, [], _∷_, map}
 use lib.Dec.{T, ltb, ltb→lt}
 use lib.ListN.{length, take, drop, getD, length-take, length-drop, length-map, List·getD-map, drop-of-length-le}
 use lib.Seq.{drop-cons, getD-take, getD-drop, ext-getD}
-use Rattle.meaning.specs.Grammar.{Symbol, terminal, nonterminal, Grammar, symbolAt, productionAt, nonterminalCount}
+use Rattle.meaning.specs.Limits.{nonterminalsLimit, productionsLimit, symbolsLimit}
+use Rattle.meaning.specs.Grammar.{Symbol, terminal, nonterminal, Grammar, symbolAt, productionAt, nonterminalCount, nonterminalBase}
 use Rattle.meaning.specs.Table.{byte, symbolOf}
 use Rattle.meaning.specs.Rules.{WellFormed}
 pub use Rattle.theory_table.specs.Numbers.{symbol-terminal, symbol-nonterminal}
 use Rattle.theory_sets.specs.Tests.{all-at}
 use Rattle.theory_sets.specs.Productions.{known, symbols, lefts}
 
+-- the bytes of symbols are below: 128 plus a nonterminal's number is the highest
+abbrev pub symbolBytes : ℕ
+symbolBytes = nonterminalBase + nonterminalsLimit
+
 -- where row p begins; row p + 1 begins where it ends
 abbrev pub rowStart : ℕ → ℕ
 rowStart p = p * 16
+
+-- the image of as many productions as a table may have
+abbrev pub rowsLength : ℕ
+rowsLength = rowStart productionsLimit
 
 abbrev pub rowCount : List ℕ → ℕ
 rowCount rows = length rows / 16
@@ -54,19 +63,19 @@ symbolIn row k = byte row (k + 2)
 
 -- the numbers of an image that the code relies on
 pub record Image (rows : List ℕ) (count : ℕ) : Type 0 where
-  pub few : count ≤ 128
+  pub few : count ≤ productionsLimit
   pub room : count * 16 ≤ length rows
-  pub lefts : (p : ℕ) → p < count → leftAt rows p < 48
-  pub sizes : (p : ℕ) → p < count → sizeAt rows p ≤ 12
-  pub symbols : (p i : ℕ) → p < count → i < sizeAt rows p → byteAt rows p i < 176
+  pub lefts : (p : ℕ) → p < count → leftAt rows p < nonterminalsLimit
+  pub sizes : (p : ℕ) → p < count → sizeAt rows p ≤ symbolsLimit
+  pub symbols : (p i : ℕ) → p < count → i < sizeAt rows p → byteAt rows p i < symbolBytes
 
 -- the rows are those of the productions of g
 pub record ImageOf (rows : List ℕ) (count : ℕ) (g : Grammar) : Type 0 where
   pub sound : WellFormed g
-  pub narrow : nonterminalCount g ≤ 48
+  pub narrow : nonterminalCount g ≤ nonterminalsLimit
   pub counted : length (g .productions) ≡ count
   pub room : count * 16 ≤ length rows
-  pub sizes : (p : ℕ) → p < count → sizeAt rows p ≤ 12
+  pub sizes : (p : ℕ) → p < count → sizeAt rows p ≤ symbolsLimit
   pub left : (p : ℕ) → p < count → leftAt rows p ≡ productionAt g p .left
   pub right : (p : ℕ) → p < count → rightAt rows p ≡ productionAt g p .right
 
@@ -77,7 +86,7 @@ row-inside image p lt = omega (arith, image .room)
 pub symbol-inside : {rows : List ℕ} {count : ℕ} → Image rows count → (p i : ℕ) → p < count → i < sizeAt rows p → HasRow rows p × (i < 14)
 symbol-inside image p i lt h = (row-inside image p lt, omega (arith, image .sizes p lt))
 
-module _ (rows : List ℕ) (count : ℕ) (room : count * 16 ≤ length rows) (p : ℕ) (lt : p < count) (short : sizeAt rows p ≤ 12) where
+module _ (rows : List ℕ) (count : ℕ) (room : count * 16 ≤ length rows) (p : ℕ) (lt : p < count) (short : sizeAt rows p ≤ symbolsLimit) where
   part-length : length (take (sizeAt rows p) (drop (p * 16 + 2) rows)) ≡ sizeAt rows p
   part-length = simp (length-take, length-drop) (omega arith)
 
@@ -134,9 +143,9 @@ image-of {rows} {count} {g} r =
         rw (right-at rows count (r .room) p lt (r .sizes p lt) i h) at
         (all-at (known g) (rightAt rows p) i (symbolOf 0) (rw (right-length rows count (r .room) p lt (r .sizes p lt)) h) (rw (r .right p lt) (symbols (r .sound) p (rw (r .counted) lt))))
 
-    small : (n : ℕ) → T (known g (symbolOf n)) → n < 176
-    small n t = go (decLt n 128)
+    small : (n : ℕ) → T (known g (symbolOf n)) → n < symbolBytes
+    small n t = go (decLt n nonterminalBase)
       where
-        go : Dec (n < 128) → n < 176
+        go : Dec (n < nonterminalBase) → n < symbolBytes
         go (yes l) = omega arith
-        go (no l) = let k = ltb→lt (n - 128) (nonterminalCount g) (rw (symbol-nonterminal n (omega arith)) at t) in let m = r .narrow in omega arith
+        go (no l) = let k = ltb→lt (n - nonterminalBase) (nonterminalCount g) (rw (symbol-nonterminal n (omega arith)) at t) in let m = r .narrow in omega arith

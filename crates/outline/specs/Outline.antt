@@ -5,6 +5,7 @@ use mathlib.Core.Path.{_≡_, ap}
 use mathlib.Core.List.{List, reverse}
 use lib.Dec.{eqb}
 use lib.ListN.{getD, length, length-map, length-reverse}
+use Rattle.meaning.specs.Limits.{nonterminalsLimit, productionsLimit}
 use Rattle.meaning.specs.Base.{any}
 use Rattle.meaning.specs.Grammar.{Grammar, nonterminal, inh, syn, nonterminalCount, productionAt}
 use Rattle.meaning.specs.Judgement.{entryOffset}
@@ -12,7 +13,7 @@ use Rattle.meaning.specs.Sets.{has, starts}
 use Rattle.meaning.specs.Table.{State, Read, wellFormed, malformed, nothingRead, readTable, productionOf, grammarOf}
 use Rattle.token_set.specs.SetBits.{setOf}
 use Rattle.outline.specs.declared.Sizes.{Sizes}
-use Rattle.outline.specs.Images.{ImageOf}
+use Rattle.outline.specs.Images.{ImageOf, rowsLength}
 
 -- ---- what is read of a table; of a malformed one nothing
 
@@ -69,7 +70,7 @@ pub record Outline (t : List ℕ) (sizes : Sizes) (inherited synthesized rows of
   pub productions : Productions t rows offsets (sizes .productions)
   pub numbers : NumbersOf sizes (grammarIn t)
   pub counts : CountsOf inherited synthesized (grammarIn t)
-  pub lengths : (length inherited ≡ 48) × (length synthesized ≡ 48) × (length rows ≡ 2048) × (length offsets ≡ 128)
+  pub lengths : (length inherited ≡ nonterminalsLimit) × (length synthesized ≡ nonterminalsLimit) × (length rows ≡ rowsLength) × (length offsets ≡ productionsLimit)
 
 -- the outline of an accepted table, with the sets of its productions
 pub record Outlined (t : List ℕ) (sizes : Sizes) (inherited synthesized rows offsets sets : List ℕ) : Type 0 where

@@ -2,6 +2,7 @@
 // production a row of 16 bytes and the offset of its field. Beside them go the numbers of the table.
 ghost use Prim.Native.Nat.{_≤_, _<_};
 ghost use mathlib.Core.Path.{_≡_};
+ghost use Rattle.meaning.specs.Limits.{productionsLimit};
 ghost use Rattle.outline.specs.Counts.{countAt, synthesizedAt};
 ghost use Rattle.outline.specs.Images.{HasRow, rowCount, rowStart, rowAt, leftAt, sizeAt, byteAt, leftIn, sizeIn, symbolIn};
 use token_set::TokenSet;
@@ -28,7 +29,7 @@ pub fn row_count(rows: &[u8]) -> usize
 
 // Where the row of p begins. The one behind it begins where it ends.
 pub fn row_start(p: usize) -> usize
-    requires { ⌜ p ≤ 128 ⌝ }
+    requires { ⌜ p ≤ productionsLimit ⌝ }
     ensures { λ r. ⌜ r ≡ rowStart p ⌝ }
 {
     p * 16

@@ -6,6 +6,7 @@ use mathlib.Core.Bool.{Bool, true, false}
 use mathlib.Core.List.{List}
 use lib.ListN.{length, getD}
 use lib.IntN.{ℤ}
+use Rattle.meaning.specs.Limits.{terminalsLimit}
 use Rattle.meaning.specs.Grammar.{Grammar}
 use Rattle.meaning.specs.Sets.{TokenSet, singleton, _∪_}
 use Rattle.meaning.specs.Machine.{Config, Lent}
@@ -47,7 +48,7 @@ module _ {ws : List ℕ} {v : ℤ} {vs : List ℤ} {ps : List ℕ} {run : Run} w
   }
 
 -- T is at most 63
-pub few-terminals : {ws : List ℕ} {vs : List ℤ} {ps : List ℕ} {run : Run} → Running ws vs ps run → getD ws 3 0 ≤ 63
+pub few-terminals : {ws : List ℕ} {vs : List ℤ} {ps : List ℕ} {run : Run} → Running ws vs ps run → getD ws 3 0 ≤ terminalsLimit
 few-terminals r = omega (arith, segment-words (r .held .begins) .terminals, r .held .wellFormed .terminals .1)
 
 pub program-long : {ws : List ℕ} {vs : List ℤ} {ps : List ℕ} {run : Run} → Running ws vs ps run → 3 < length ws

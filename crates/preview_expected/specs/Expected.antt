@@ -7,7 +7,8 @@ use mathlib.Core.List.{List, [], _∷_}
 use lib.ListN.{length, getD}
 use lib.Dec.{eqb}
 use borrow.Author.Tests.{eq-eqb, ne-eqb}
-use Rattle.theory_program.specs.Parts.{headOperation, headOperand, readOperation, predictOperation, nothingOperation}
+use Rattle.meaning.specs.Program.{readOperation, predictOperation, nothingOperation}
+use Rattle.theory_program.specs.Parts.{headOperation, headOperand}
 
 -- the directory names an alternative of nonterminal n for token u
 abbrev pub namesOne : List ℕ → ℕ → ℕ → Bool

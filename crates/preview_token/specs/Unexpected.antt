@@ -2,15 +2,16 @@
 use Prim.Native.Nat.{ℕ, suc, _+_, _-_, _*_, _<_}
 use native.Mathlib.Omega.{arith}
 use mathlib.Core.Path.{_≡_, refl, sym, ap, _∙_}
-use mathlib.Core.Bool.{Bool, true, false, not, _&&_, cond, and-false}
+use mathlib.Core.Bool.{Bool, true, false, not, _&&_, cond, and-false, true≢false}
 use mathlib.Core.List.{List, [], _++_}
 use lib.ListN.{length, getD}
 use lib.Dec.{eqb, ltb, leb}
 use lib.IntN.{ℤ}
 use borrow.Author.Tests.{ne-eqb, eqb-true, eqb-false, ltb-true, ltb-false, le-ltb, not-false}
+use Rattle.meaning.specs.Program.{readOperation, predictOperation, nothingOperation}
+use Rattle.meaning.specs.Sets.{endNumber}
 use Rattle.meaning.specs.Grammar.{Grammar, Leaf, leafOf}
 use Rattle.meaning.specs.Machine.{Config, Lent, comes, moved, blocked, next, waits, isDone, Settled, stopped, failed, advanceFrom, feedAll, movesLimit, tokensLimit}
-use Rattle.theory_base.specs.Members.{apart}
 use Rattle.theory_base.specs.Steps.{advance-failed}
 use Rattle.theory_program.specs.Parts.{headOperation, headOperand}
 use Rattle.run_moves.specs.declared.Run.{Run}
@@ -40,27 +41,27 @@ module _ {g : Grammar} {ws : List ℕ} {lent : Lent} {m : List ℤ} {ps : List �
 
   -- below the limit of moves
   module _ (limit : run .moves < movesLimit) where
-    other-terminal : number ≡ 2 → (operand ≡ u → ⊥) → Refuses
+    other-terminal : number ≡ readOperation → (operand ≡ u → ⊥) → Refuses
     other-terminal o z =
         let x = hand-terminal h o in
         let vs : List ℤ = leaf .values in
         let taken = cond (ltb (lent .maxRegisters) (length (c .registers) + length vs)) (blocked 31) (moved (after h x (vs ++ c .registers) (suc (c .tokens)))) in
         (21, next-is h (comes leaf) x limit ∙ ap (λ b. cond b taken (blocked 21)) (ne-eqb operand u z))
 
-    no-alternative : u < 63 → number ≡ 3 → getD ws (9 + 64 * operand + u) 0 ≡ 0 → Refuses
-    no-alternative l o z = (_, blocked-unexpected h o u (omega arith) (comes leaf) (sym (ap (λ b. lookIf b u) (ne-eqb u 63 (λ e. omega arith)))) limit (first-zero h o u (omega arith) z) .0)
+    no-alternative : u < endNumber → number ≡ predictOperation → getD ws (9 + 64 * operand + u) 0 ≡ 0 → Refuses
+    no-alternative l o z = (_, blocked-unexpected h o u (omega arith) (comes leaf) (sym (ap (λ b. lookIf b u) (ne-eqb u endNumber (λ e. omega arith)))) limit (first-zero h o u (omega arith) z) .0)
 
   -- its first move is refused: the terminal is another, no alternative holds it, nothing is left; or no move is
-  refuses : u < 63 → expectedAt ws (run .at) u ≡ false → Refuses
-  refuses l = go (ltb (run .moves) movesLimit) (eqb number 2) (eqb number 3) (eqb number 6) refl refl refl refl
+  refuses : u < endNumber → expectedAt ws (run .at) u ≡ false → Refuses
+  refuses l = go (ltb (run .moves) movesLimit) (eqb number readOperation) (eqb number predictOperation) (eqb number nothingOperation) refl refl refl refl
     where
-      go : (a b d s : Bool) → ltb (run .moves) movesLimit ≡ a → eqb number 2 ≡ b → eqb number 3 ≡ d → eqb number 6 ≡ s → expectedBy b d s ws operand u ≡ false → Refuses
-      go a false false false x y z w e = absurd (apart e)
-      go a false false true x y z w e = (_, blocked-over h (comes leaf) (eqb-true number 6 w))
-      go true true d s x y z w e = other-terminal (ltb-true (run .moves) movesLimit x) (eqb-true number 2 y) (eqb-false operand u e)
-      go true false true s x y z w e = no-alternative (ltb-true (run .moves) movesLimit x) l (eqb-true number 3 z) (eqb-true (getD ws (9 + 64 * operand + u) 0) 0 (not-false (eqb (getD ws (9 + 64 * operand + u) 0) 0) e))
-      go false true d s x y z w e = (35, blocked-limit h (comes leaf) (λ q. omega (arith, q, eqb-true number 2 y)) (omega (arith, bounds h .moves, ltb-false (run .moves) movesLimit x)))
-      go false false true s x y z w e = (35, blocked-limit h (comes leaf) (λ q. omega (arith, q, eqb-true number 3 z)) (omega (arith, bounds h .moves, ltb-false (run .moves) movesLimit x)))
+      go : (a b d s : Bool) → ltb (run .moves) movesLimit ≡ a → eqb number readOperation ≡ b → eqb number predictOperation ≡ d → eqb number nothingOperation ≡ s → expectedBy b d s ws operand u ≡ false → Refuses
+      go a false false false x y z w e = absurd (true≢false e)
+      go a false false true x y z w e = (_, blocked-over h (comes leaf) (eqb-true number nothingOperation w))
+      go true true d s x y z w e = other-terminal (ltb-true (run .moves) movesLimit x) (eqb-true number readOperation y) (eqb-false operand u e)
+      go true false true s x y z w e = no-alternative (ltb-true (run .moves) movesLimit x) l (eqb-true number predictOperation z) (eqb-true (getD ws (9 + 64 * operand + u) 0) 0 (not-false (eqb (getD ws (9 + 64 * operand + u) 0) 0) e))
+      go false true d s x y z w e = (35, blocked-limit h (comes leaf) (λ q. omega (arith, q, eqb-true number readOperation y)) (omega (arith, bounds h .moves, ltb-false (run .moves) movesLimit x)))
+      go false false true s x y z w e = (35, blocked-limit h (comes leaf) (λ q. omega (arith, q, eqb-true number predictOperation z)) (omega (arith, bounds h .moves, ltb-false (run .moves) movesLimit x)))
 
   abbrev fedBy : Bool → Bool → Settled
   fedBy late known = elim late as (λ x. Settled) [ true ↦ failed c 35 | false ↦ elim known as (λ x. Settled) [ true ↦ advanceFrom g lent (comes leaf) c | false ↦ failed c 20 ] ]

@@ -1,5 +1,5 @@
 -- The words and numbers of a production's rules and conditions, by a walk along their fields.
-use Prim.Native.Nat.{ℕ, _+_, _*_, _≤_, _<_}
+use Prim.Native.Nat.{ℕ, _+_, _≤_, _<_}
 use native.Mathlib.Omega.{arith}
 use mathlib.Core.Path.{_≡_, refl, sym, ap, ap₂, _∙_}
 use mathlib.Core.Bool.{Bool, true, false}
@@ -11,7 +11,7 @@ use Rattle.meaning.specs.Base.{keep, consIf}
 use Rattle.meaning.specs.Grammar.{Occurrence, Rule, Condition, conditionPosition, mapRule, mapCondition}
 use Rattle.meaning.specs.Rules.{Constant, Proper}
 use Rattle.meaning.specs.Layout.{field, ruleBytes, conditionBytes, RulesAndConditions, nothing, rule, condition}
-use Rattle.meaning.specs.Program.{concat, ruleWords, conditionWords}
+use Rattle.meaning.specs.Program.{concat, ruleWords, conditionWords, headOf, evaluateOperation, testOperation}
 use Rattle.meaning.specs.Table.{byte}
 use Rattle.theory_program.specs.Proper.{keep-few}
 use Rattle.program_block_words.specs.Fields.{Listed, Behind, field-at, none-left}
@@ -144,12 +144,12 @@ count-few d x rules k = elim rules as (λ y. itemCount y k x ≤ length d) [
 -- ---- a block
 
 abbrev pub operationOf : Bool → ℕ
-operationOf true = 1
-operationOf false = 4
+operationOf true = evaluateOperation
+operationOf false = testOperation
 
 -- an evaluate or a test of n items; nothing where there are none
 unfoldable pub block : Bool → ℕ → List ℕ → List ℕ
-block rules n ws = chooseWords (eqb n 0) [] ((operationOf rules + 8 * n) ∷ ws)
+block rules n ws = chooseWords (eqb n 0) [] (headOf (operationOf rules) n ∷ ws)
 
 abbrev pub blockWords : Bool → ℕ → List ℕ → ℕ → {d : List ℕ} → Listed d → List ℕ
 blockWords rules top below k x = block rules (itemCount rules k x) (itemWords rules top below k x)

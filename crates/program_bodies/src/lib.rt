@@ -11,10 +11,10 @@ use outline::count_of;
 use program_blocks::RULES;
 use program_blocks::write_block;
 use program_blocks::write_entry_tests;
-use program_body_counts::number_at;
 use program_body_levels::find_levels;
 use program_body_symbols::write_symbols;
 use token_set::TokenSet;
+use value::word_or_zero;
 
 // The synthesized attributes of all symbols.
 fn whole_sum(row: &[u8], inherited: &[u8], levels: &[u32]) -> u32
@@ -26,7 +26,7 @@ fn whole_sum(row: &[u8], inherited: &[u8], levels: &[u32]) -> u32
         return 0;
     }
     let own = count_of(inherited, outline::row_symbol(row, size - 1) as usize) as u32;
-    number_at(levels, size) - own
+    word_or_zero(levels, size) - own
 }
 
 const REMOVE: u32 = operations::REMOVE as u32;

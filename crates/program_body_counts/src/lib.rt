@@ -1,18 +1,8 @@
-// Numbers by place, and zeros in a range of words.
+// Zeros in a range of words.
 ghost use Prim.Native.Nat.{_-_, _≤_};
 ghost use mathlib.Core.Path.{_≡_};
-ghost use lib.ListN.{length, getD, replicate};
+ghost use lib.ListN.{length, replicate};
 ghost use Rattle.program_block_words.specs.Patch.{patch};
-
-// 0 past the end.
-pub fn number_at(numbers: &[u32], at: usize) -> u32
-    ensures { λ r. ⌜ r ≡ getD (now (numbers .entry)) at 0 ⌝ }
-{
-    if numbers.len() <= at {
-        return 0;
-    }
-    numbers[at]
-}
 
 // 0 in the words of a range.
 pub fn clear(area: &mut [u32], from: usize, to: usize)

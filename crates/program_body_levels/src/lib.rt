@@ -3,6 +3,7 @@ ghost use Prim.Native.Nat.{ℕ, _+_, _≤_, _<_};
 ghost use mathlib.Core.Path.{_≡_};
 ghost use mathlib.Core.List.{List};
 ghost use lib.ListN.{length};
+ghost use Rattle.meaning.specs.Limits.{positionsLimit, symbolsLimit};
 ghost use Rattle.program_body_words.specs.OfProduction.{OfProduction, Carried};
 ghost use Rattle.program_body_words.specs.Waits.{LeveledAndWaiting};
 use limits::POSITIONS;
@@ -20,8 +21,8 @@ pub fn find_levels(
     area: &mut [u32],
     wait: usize,
 ) -> [u32; POSITIONS]
-    requires { ⌜ ((fs : List ℕ) × OfProduction (now row) fs (now inherited) (now synthesized)) × (wait + 12 ≤ length (now area)) ⌝ }
-    ensures { λ r. ⌜ (length r ≡ 13) × ((fs : List ℕ) (x : OfProduction (now (row .entry)) fs (now (inherited .entry)) (now (synthesized .entry))) → Carried (carrying .0) (x .grammar) → LeveledAndWaiting x r (now (area .entry)) (now (area .exit)) wait) ⌝ }
+    requires { ⌜ ((fs : List ℕ) × OfProduction (now row) fs (now inherited) (now synthesized)) × (wait + symbolsLimit ≤ length (now area)) ⌝ }
+    ensures { λ r. ⌜ (length r ≡ positionsLimit) × ((fs : List ℕ) (x : OfProduction (now (row .entry)) fs (now (inherited .entry)) (now (synthesized .entry))) → Carried (carrying .0) (x .grammar) → LeveledAndWaiting x r (now (area .entry)) (now (area .exit)) wait) ⌝ }
 {
     let mut levels = [0u32; POSITIONS];
     let left = outline::row_left(row);
@@ -37,6 +38,6 @@ pub fn find_levels(
         levels[k + 1] = sum + own;
         k += 1;
     }
-    clear(area, wait + size, wait + 12);
+    clear(area, wait + size, wait + program_parts::WAIT_WORDS);
     levels
 }

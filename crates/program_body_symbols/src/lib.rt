@@ -9,7 +9,7 @@ use outline::count_of;
 use program_blocks::CONDITIONS;
 use program_blocks::RULES;
 use program_blocks::write_block;
-use program_body_counts::number_at;
+use value::word_or_zero;
 
 const ADD: u32 = operations::ADD as u32;
 
@@ -39,7 +39,7 @@ fn write_add(n: u32, area: &mut [u32], address: usize) -> usize
     address + 1
 }
 
-// The instructions of the symbol at position k + 1; the address of its expect is noted among those of the production's expects, which
+// The instructions of the symbol at position k + 1; the address of its expect is written among those of the production's expects, which
 // stand from another address on.
 fn write_symbol(
     row: &[u8],
@@ -60,7 +60,7 @@ fn write_symbol(
     let symbol = outline::row_symbol(row, k);
     let own = count_of(inherited, symbol as usize) as u32;
     let all = own + count_of(synthesized, symbol as usize) as u32;
-    let top = number_at(levels, k + 1);
+    let top = word_or_zero(levels, k + 1);
     let from = write_add(all, area, address);
     let expect = write_block(fields, marks, links, RULES, k + 1, top, levels, area, from);
     area[expects + k] = expect as u32;

@@ -5,7 +5,7 @@ use mathlib.Core.Path.{_≡_, refl, sym, ap, _∙_, subst}
 use mathlib.Core.Bool.{false}
 use mathlib.Core.List.{List, _++_, append-assoc}
 use lib.ListN.{length, getD}
-use Rattle.meaning.specs.Limits.{areaLength}
+use Rattle.meaning.specs.Limits.{areaLength, symbolsLimit}
 use Rattle.meaning.specs.Grammar.{Production, Grammar}
 use Rattle.meaning.specs.Scheme.{scheme, entryTests}
 use Rattle.meaning.specs.Program.{waitRow, entryWords, schemeOffset, bodyWords}
@@ -29,7 +29,7 @@ module _ {row fields inherited synthesized marks links area : List ℕ} {carryin
   abbrev p : Production
   p = x .given .production
 
-  pub wait-inside : wait + 12 ≤ length area
+  pub wait-inside : wait + symbolsLimit ≤ length area
   wait-inside = omega (arith, x .apart, x .room, x .long)
 
   -- how many entry tests there are, and the last node of their chain
@@ -45,7 +45,7 @@ module _ {row fields inherited synthesized marks links area : List ℕ} {carryin
     el : Leveled g p levels
     el = ew (x .given) (x .carried) .leveled
 
-    waited : Wrote area m0 wait (wait + 12) (waitRow g p)
+    waited : Wrote area m0 wait (wait + symbolsLimit) (waitRow g p)
     waited = ew (x .given) (x .carried) .waiting
 
     prepared : Prepared row fields inherited synthesized marks links levels

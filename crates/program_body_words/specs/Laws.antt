@@ -6,6 +6,8 @@ use mathlib.Core.Bool.{Bool}
 use mathlib.Core.List.{List, [], _∷_}
 use lib.ListN.{length, set, getD, List·getD-eq-default}
 use borrow.Author.Tests.{lt-ltb, le-ltb, eq-eqb, ne-eqb}
+use Rattle.meaning.specs.Program.{headOf, readOperation, predictOperation, addOperation}
+use Rattle.meaning.specs.Grammar.{nonterminalBase}
 use Rattle.program_block_words.specs.Items.{itemSize}
 use Rattle.program_block_words.specs.Patch.{patch, Wrote, wrote-none, wrote-one, patch-swap}
 use Rattle.program_body_words.specs.SchemeWords.{addWords, addSize, blockSize}
@@ -14,13 +16,13 @@ use Rattle.program_body_words.specs.OfProduction.{expectHead}
 pub past-end : (l : List ℕ) (i : ℕ) → length l ≤ i → 0 ≡ getD l i 0
 past-end l i h = sym (List·getD-eq-default l 0 {n = i} h)
 
-pub head-terminal : (b : ℕ) → b < 128 → 2 + 8 * b ≡ expectHead b
+pub head-terminal : (b : ℕ) → b < nonterminalBase → headOf readOperation b ≡ expectHead b
 unfolding expectHead
-head-terminal b l = rw (lt-ltb b 128 l)
+head-terminal b l = rw (lt-ltb b nonterminalBase l)
 
-pub head-nonterminal : (b : ℕ) → 128 ≤ b → 3 + 8 * (b - 128) ≡ expectHead b
+pub head-nonterminal : (b : ℕ) → nonterminalBase ≤ b → headOf predictOperation (b - nonterminalBase) ≡ expectHead b
 unfolding expectHead
-head-nonterminal b l = rw (le-ltb b 128 l)
+head-nonterminal b l = rw (le-ltb b nonterminalBase l)
 
 pub add-some : (n : ℕ) → (n ≡ 0 → ⊥) → 1 ≡ addSize n
 unfolding addSize
@@ -30,7 +32,7 @@ pub add-not-written : (area : List ℕ) (a n : ℕ) → n ≡ 0 → Wrote area a
 unfolding addWords
 add-not-written area a n e = rw (eq-eqb n 0 e) (wrote-none area a)
 
-pub add-written : (area : List ℕ) (a n w : ℕ) → (n ≡ 0 → ⊥) → w ≡ 0 + 8 * n → Wrote area (set area a w) a (a + 1) (addWords n)
+pub add-written : (area : List ℕ) (a n w : ℕ) → (n ≡ 0 → ⊥) → w ≡ headOf addOperation n → Wrote area (set area a w) a (a + 1) (addWords n)
 unfolding addWords
 add-written area a n w e ew =
     let f : w ≡ 8 * n = omega (arith, ew) in

@@ -6,6 +6,7 @@ use mathlib.Core.Path.{_≡_, refl, sym, ap, ap₂, _∙_}
 use mathlib.Core.List.{List}
 use lib.ListN.{length, set, getD, replicate}
 use lib.Seq.{getD-set-same, getD-set-other}
+use Rattle.meaning.specs.Limits.{positionsLimit, symbolsLimit}
 use Rattle.meaning.specs.Grammar.{Grammar, Production}
 use Rattle.meaning.specs.Scheme.{synBetween}
 use Rattle.meaning.specs.Table.{byte}
@@ -20,10 +21,10 @@ module _ {row fields inherited synthesized : List ℕ} (x : OfProduction row fie
     pub summed : sum ≡ synBetween (x .grammar) (x .production) 0 k
     pub each : (i : ℕ) → i ≤ k → getD levels i 0 ≡ level (x .grammar) (x .production) i
 
-  pub levels-start : LevelsGo 0 0 (replicate 13 0)
+  pub levels-start : LevelsGo 0 0 (replicate positionsLimit 0)
   levels-start = record { summed = sym (syn-none (x .grammar) (x .production) 0); each = λ i l. first i (omega arith) }
     where
-      first : (i : ℕ) → i ≡ 0 → getD (replicate 13 0) i 0 ≡ level (x .grammar) (x .production) i
+      first : (i : ℕ) → i ≡ 0 → getD (replicate positionsLimit 0) i 0 ≡ level (x .grammar) (x .production) i
       first i e = rw e refl
 
   pub levels-turn : {k sum : ℕ} {levels : List ℕ} {b s i : ℕ} → LevelsGo k sum levels → k < length (rightOf x) → k + 1 < length levels → b ≡ byte row (k + 2) → s ≡ synthesizedAt carrying synthesized b → i ≡ countAt inherited b → LevelsGo (k + 1) (sum + s) (set levels (k + 1) (sum + s + i))
@@ -51,5 +52,5 @@ module _ {row fields inherited synthesized : List ℕ} (x : OfProduction row fie
   pub levels-end : {k sum : ℕ} {levels : List ℕ} → LevelsGo k sum levels → length (rightOf x) ≤ k → Leveled (x .grammar) (x .production) levels
   levels-end d l i h = d .each i (omega arith)
 
-pub row-short : {row fields inherited synthesized : List ℕ} (x : OfProduction row fields inherited synthesized) (n : ℕ) → n ≡ byte row 1 → n ≤ 12
+pub row-short : {row fields inherited synthesized : List ℕ} (x : OfProduction row fields inherited synthesized) (n : ℕ) → n ≡ byte row 1 → n ≤ symbolsLimit
 row-short x n e = omega (arith, e, x .size, x .ofGrammar .short)

@@ -7,13 +7,13 @@ use mathlib.Core.List.{List, [], _∷_, _++_, append-assoc}
 use lib.ListN.{length, set, drop, length-append, drop-of-length-le}
 use lib.Seq.{drop-cons}
 use lib.Dec.{ltb}
-use Rattle.meaning.specs.Limits.{areaLength, tableLimit}
-use Rattle.meaning.specs.Grammar.{Symbol, terminal, nonterminal, Production, Grammar, inh, syn, markedFor, attributeIf, symbolAt, nonterminalCount}
+use Rattle.meaning.specs.Limits.{areaLength, tableLimit, symbolsLimit}
+use Rattle.meaning.specs.Grammar.{Symbol, terminal, nonterminal, Production, Grammar, inh, syn, markedFor, attributeIf, symbolAt, nonterminalCount, nonterminalBase}
 use Rattle.meaning.specs.Rules.{Known, WellFormed, WellFormedProduction}
 use Rattle.meaning.specs.Layout.{RulesAndConditions}
 use Rattle.meaning.specs.Scheme.{Instruction, scheme, symbolsScheme, entryTests}
 use Rattle.meaning.specs.Sets.{has}
-use Rattle.meaning.specs.Program.{waitRow, symbolHead, schemeWords, expectsAt, entryWords, schemeOffset, bodyWords, bodySize}
+use Rattle.meaning.specs.Program.{waitRow, symbolHead, schemeWords, expectsAt, entryWords, schemeOffset, bodyWords, bodySize, headOf, readOperation, predictOperation}
 use Rattle.meaning.specs.Table.{byte, symbolOf}
 use Rattle.theory_base.specs.Members.{getD-in}
 use Rattle.theory_program.specs.Code.{conditions-length}
@@ -52,34 +52,34 @@ abbrev pub Carried : ℕ → Grammar → Type 0
 Carried carrying g = (t : ℕ) → attributeIf (has (setOf carrying) t) ≡ syn g (terminal t)
 
 unfoldable pub expectHead : ℕ → ℕ
-expectHead b = cond (ltb b 128) (2 + 8 * b) (3 + 8 * (b - 128))
+expectHead b = cond (ltb b nonterminalBase) (headOf readOperation b) (headOf predictOperation (b - nonterminalBase))
 
 abbrev symbolBy : Bool → ℕ → Symbol
-symbolBy c b = elim c as (λ z. Symbol) [ true ↦ terminal b | false ↦ nonterminal (b - 128) ]
+symbolBy c b = elim c as (λ z. Symbol) [ true ↦ terminal b | false ↦ nonterminal (b - nonterminalBase) ]
 
 pub head-is : (b : ℕ) → expectHead b ≡ symbolHead (symbolOf b)
 unfolding expectHead
-head-is b = go (ltb b 128)
+head-is b = go (ltb b nonterminalBase)
   where
-    go : (c : Bool) → cond c (2 + 8 * b) (3 + 8 * (b - 128)) ≡ symbolHead (symbolBy c b)
+    go : (c : Bool) → cond c (headOf readOperation b) (headOf predictOperation (b - nonterminalBase)) ≡ symbolHead (symbolBy c b)
     go true = refl
     go false = refl
 
 pub count-by : (g : Grammar) (counts : List ℕ) (f : Symbol → ℕ) → ((t : ℕ) → f (terminal t) ≡ 0) → ((n : ℕ) → n < nonterminalCount g → byte counts n ≡ f (nonterminal n)) → (b : ℕ) → Known g (symbolOf b) → countAt counts b ≡ f (symbolOf b)
 unfolding countAt
-count-by g counts f ft fn b kn = go (ltb b 128) kn
+count-by g counts f ft fn b kn = go (ltb b nonterminalBase) kn
   where
-    go : (c : Bool) → Known g (symbolBy c b) → cond c 0 (byte counts (b - 128)) ≡ f (symbolBy c b)
+    go : (c : Bool) → Known g (symbolBy c b) → cond c 0 (byte counts (b - nonterminalBase)) ≡ f (symbolBy c b)
     go true h = sym (ft b)
-    go false h = fn (b - 128) h
+    go false h = fn (b - nonterminalBase) h
 
 pub synthesized-by : (g : Grammar) (carrying : ℕ) → Carried carrying g → (counts : List ℕ) → ((n : ℕ) → n < nonterminalCount g → byte counts n ≡ syn g (nonterminal n)) → (b : ℕ) → Known g (symbolOf b) → synthesizedAt carrying counts b ≡ syn g (symbolOf b)
 unfolding synthesizedAt
-synthesized-by g carrying ft counts fn b kn = go (ltb b 128) kn
+synthesized-by g carrying ft counts fn b kn = go (ltb b nonterminalBase) kn
   where
-    go : (c : Bool) → Known g (symbolBy c b) → cond c (attributeIf (has (setOf carrying) b)) (byte counts (b - 128)) ≡ syn g (symbolBy c b)
+    go : (c : Bool) → Known g (symbolBy c b) → cond c (attributeIf (has (setOf carrying) b)) (byte counts (b - nonterminalBase)) ≡ syn g (symbolBy c b)
     go true h = ft b
-    go false h = fn (b - 128) h
+    go false h = fn (b - nonterminalBase) h
 
 module _ {row fields inherited synthesized : List ℕ} (x : OfProduction row fields inherited synthesized) where
   known : (k : ℕ) → k < length (rightOf x) → Known (x .grammar) (symbolAt (x .production) (suc k))
@@ -171,7 +171,7 @@ pub record BodyFits (row fields inherited synthesized : List ℕ) (carrying : �
   pub found : Found fields links marks (listedOf given)
   pub room : a + bodySize (given .grammar) (given .production) ≤ areaLength
   pub long : areaLength ≤ length area
-  pub apart : wait + 12 ≤ a
+  pub apart : wait + symbolsLimit ≤ a
 
 -- it is written, and what the places wait at
 abbrev pub BodyWrote : {row fields inherited synthesized : List ℕ} {carrying : ℕ} {marks links area : List ℕ} {a wait : ℕ} → BodyFits row fields inherited synthesized carrying marks links area a wait → List ℕ → ℕ → Type 0

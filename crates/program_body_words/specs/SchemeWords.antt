@@ -10,7 +10,7 @@ use borrow.Author.Tests.{lt-ltb}
 use Rattle.meaning.specs.Base.{consIf, isEmpty}
 use Rattle.meaning.specs.Grammar.{Symbol, Rule, Condition, Production, Grammar, addedFor}
 use Rattle.meaning.specs.Scheme.{Instruction, add, evaluate, expect, test, remove, removed, inheritedRules, synthesizedRules, testsAfter, symbolScheme}
-use Rattle.meaning.specs.Program.{concat, ruleWords, conditionWords, instructionWords, symbolHead, schemeWords, expectsAt}
+use Rattle.meaning.specs.Program.{concat, ruleWords, conditionWords, instructionWords, symbolHead, schemeWords, expectsAt, headOf, addOperation, removeOperation}
 use Rattle.theory_program.specs.Code.{rules-length, conditions-length}
 use Rattle.program_block_words.specs.Items.{chooseWords, itemSize}
 use Rattle.program_block_words.specs.Walk.{block}
@@ -60,7 +60,7 @@ add-here : (n : ℕ) (rest : List Instruction) → schemeWords (consIf (ltb 0 n)
 unfolding addWords
 add-here zero rest = refl
 add-here (suc n) rest =
-    let e : 0 + 8 * suc n ≡ 8 * suc n = omega arith in
+    let e : headOf addOperation (suc n) ≡ 8 * suc n = omega arith in
     rw (lt-ltb 0 (suc n) (omega arith), eqb·suc-zero n, e)
 
 pub evaluate-here : (rs : List (Rule ℕ)) (rest : List Instruction) → schemeWords (consIf (not (isEmpty rs)) (evaluate rs) rest) ≡ evaluateWords rs ++ schemeWords rest
@@ -131,7 +131,7 @@ abbrev pub endScheme : Grammar → Production → List Instruction
 endScheme g p = consIf (not (isEmpty (synthesizedRules g p))) (evaluate (synthesizedRules g p)) (remove (removed g p) ∷ [])
 
 unfoldable pub endWords : Grammar → Production → List ℕ
-endWords g p = evaluateWords (synthesizedRules g p) ++ ((5 + 8 * removed g p) ∷ [])
+endWords g p = evaluateWords (synthesizedRules g p) ++ (headOf removeOperation (removed g p) ∷ [])
 
 pub scheme-end : (g : Grammar) (p : Production) → schemeWords (endScheme g p) ≡ endWords g p
 unfolding endWords

@@ -1,10 +1,11 @@
 -- All symbols of a production with the addresses of their expects, and the end of its scheme.
-use Prim.Native.Nat.{ℕ, suc, _+_, _-_, _*_, _≤_, _<_}
+use Prim.Native.Nat.{ℕ, suc, _+_, _-_, _≤_, _<_}
 use native.Mathlib.Omega.{arith}
 use mathlib.Core.Path.{_≡_, sym, ap, ap₂, _∙_}
 use mathlib.Core.Bool.{true}
 use mathlib.Core.List.{List, [], _∷_}
 use lib.ListN.{length, set, getD, length-append}
+use Rattle.meaning.specs.Program.{headOf, removeOperation}
 use Rattle.meaning.specs.Limits.{areaLength}
 use Rattle.meaning.specs.Grammar.{Production, Grammar, nonterminal, inh, symbolAt}
 use Rattle.meaning.specs.Scheme.{synBetween, removed, synthesizedRules}
@@ -148,7 +149,7 @@ module _ {row fields inherited marks links levels area : List ℕ} {a : ℕ} (x 
 
   end-size : length (endWords gr pr) ≡ blockSize true (length (synthesizedRules gr pr)) + 1
   unfolding endWords
-  end-size = length-append (evaluateWords (synthesizedRules gr pr)) ((5 + 8 * removed gr pr) ∷ []) ∙ omega (arith, evaluate-length (synthesizedRules gr pr))
+  end-size = length-append (evaluateWords (synthesizedRules gr pr)) (headOf removeOperation (removed gr pr) ∷ []) ∙ omega (arith, evaluate-length (synthesizedRules gr pr))
 
   module _ {sum own l : ℕ} (f : (y : Prepared row fields inherited (x .synthesized) marks links levels) → sum ≡ synBetween (y .given .grammar) (y .given .production) 0 (length (rightOf (y .given)))) (el : l ≡ byte row 0) (eo : own ≡ byte inherited l) where
     pub sum-small : sum ≤ 96
@@ -174,8 +175,8 @@ module _ {row fields inherited marks links levels area : List ℕ} {a : ℕ} (x 
       pub next-inside : next < length mid
       next-inside = omega (arith, next-small, wrote-length so-far, x .long)
 
-      pub end-written : {w : ℕ} → w ≡ 5 + 8 * (own + sum) → Wrote area (set mid next w) a (next + 1) (endWords gr pr)
+      pub end-written : {w : ℕ} → w ≡ headOf removeOperation (own + sum) → Wrote area (set mid next w) a (next + 1) (endWords gr pr)
       unfolding endWords
       end-written {w} ew =
           let e : own + sum ≡ removed gr pr = ap₂ (λ y z. y + z) left-is (f (x .prepared)) in
-          wrote-then so-far (wrote-as (ap (λ z. z ∷ []) ew ∙ ap (λ z. (5 + 8 * z) ∷ []) e) (wrote-one mid next w))
+          wrote-then so-far (wrote-as (ap (λ z. z ∷ []) ew ∙ ap (λ z. headOf removeOperation z ∷ []) e) (wrote-one mid next w))

@@ -5,7 +5,7 @@ use mathlib.Core.Path.{_≡_, sym, ap, ap₂, _∙_, subst}
 use mathlib.Core.Bool.{Bool, true, false}
 use mathlib.Core.List.{List, _∷_, _++_, append-assoc}
 use lib.ListN.{length, set, getD, length-append, length-map, length-set}
-use Rattle.meaning.specs.Limits.{areaLength, tableLimit}
+use Rattle.meaning.specs.Limits.{areaLength, tableLimit, positionsLimit, symbolsLimit}
 use Rattle.meaning.specs.Grammar.{Production, Grammar, inh, addedFor, symbolAt, mapRule, mapCondition, conditionsAt}
 use Rattle.meaning.specs.Scheme.{synBetween, selectInherited, selectAfter, rulesFor, inheritedRules, synthesizedRules, testsAfter}
 use Rattle.meaning.specs.Program.{symbolHead}
@@ -39,7 +39,7 @@ module _ (g : Grammar) (p : Production) where
 -- ---- a block finds room
 
 abbrev pub block-fits : {fields links marks : List ℕ} (x : Listed fields) (found : Found fields links marks x) (short : length fields ≤ tableLimit) (rules : Bool) (k : ℕ) {area : List ℕ} {a : ℕ}
-    → k < 13 → a + blockSize rules (itemCount rules k x) ≤ length area → BlockFits fields links marks rules k area a
+    → k < positionsLimit → a + blockSize rules (itemCount rules k x) ≤ length area → BlockFits fields links marks rules k area a
 block-fits {fields} x found short rules k h l = record { listed = x; found = found; here = h; few = omega (arith, count-few fields x rules k); room = λ some. omega (arith, size-some rules (itemCount rules k x) (omega arith)) }
 
 module _ {row fields inherited synthesized marks links levels : List ℕ} {k : ℕ} {area : List ℕ} {a e : ℕ} (x : SymbolFits row fields inherited synthesized marks links levels k area a e) where
@@ -52,14 +52,14 @@ module _ {row fields inherited synthesized marks links levels : List ℕ} {k : �
   abbrev p : Production
   p = given .production
 
-  short : length (p .right) ≤ 12
+  short : length (p .right) ≤ symbolsLimit
   short = given .ofGrammar .short
 
   words-size : length (wordsAt given k) ≡ addSize (addedFor g (symbolAt p (suc k))) + blockSize true (length (inheritedRules g p (suc k))) + 1 + blockSize false (length (testsAfter g p (suc k)))
   unfolding aheadSize
   words-size = symbol-length g p (suc k) (symbolAt p (suc k))
 
-  pub index-small : k < 12
+  pub index-small : k < symbolsLimit
   index-small = omega (arith, short, x .here)
 
   module _ {b own out : ℕ} (eb : b ≡ byte row (k + 2)) (eo : own ≡ countAt inherited b) (es : out ≡ countAt synthesized b) where

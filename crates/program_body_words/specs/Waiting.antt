@@ -4,6 +4,7 @@ use native.Mathlib.Omega.{arith}
 use mathlib.Core.Path.{_≡_, refl, sym, ap, ap₂, _∙_, subst}
 use mathlib.Core.List.{List, [], _∷_, _++_}
 use lib.ListN.{length, set, replicate, length-set, length-replicate}
+use Rattle.meaning.specs.Limits.{symbolsLimit}
 use Rattle.meaning.specs.Grammar.{inh, syn, markedFor, symbolAt}
 use Rattle.meaning.specs.Layout.{symbolByte}
 use Rattle.meaning.specs.Program.{waitWord, waitRow}
@@ -65,14 +66,14 @@ module _ {row fields inherited synthesized : List ℕ} {carrying : ℕ} {old : L
           (subst (λ z. Onward old at (waitsLeft x 0 0) (set area (at + k) z) (at + (k + 1)) (waitsLeft x (k + 1) (n + syn g y))) (sym isWord)
           (subst (λ z. Onward old at (waitsLeft x 0 0) (set area (at + k) (waitWord g (pr .left) n y)) z (waitsLeft x (k + 1) (n + syn g y))) place o))
 
-  pub row-written : {new : List ℕ} → k ≡ size → new ≡ patch area (at + size) (replicate (at + 12 - (at + size)) 0) → (x : OfProduction row fields inherited synthesized) → Carried carrying (x .grammar) → Wrote old new at (at + 12) (waitRow (x .grammar) (x .production))
+  pub row-written : {new : List ℕ} → k ≡ size → new ≡ patch area (at + size) (replicate (at + symbolsLimit - (at + size)) 0) → (x : OfProduction row fields inherited synthesized) → Carried carrying (x .grammar) → Wrote old new at (at + symbolsLimit) (waitRow (x .grammar) (x .production))
   row-written {new} e h x c =
       let m : length (rightOf x) ≤ k = omega (arith, es, x .size) in
       let short = x .ofGrammar .short in
       let words = onward-end (onward-as (waits-end x k n m) (s .go x c)) in
-      let rest : at + 12 - (at + size) ≡ 12 - length (rightOf x) = omega (arith, es, x .size) in
-      let w : Wrote area new (at + k) (at + 12) (replicate (12 - length (rightOf x)) 0) = record {
+      let rest : at + symbolsLimit - (at + size) ≡ symbolsLimit - length (rightOf x) = omega (arith, es, x .size) in
+      let w : Wrote area new (at + k) (at + symbolsLimit) (replicate (symbolsLimit - length (rightOf x)) 0) = record {
         memory = h ∙ ap₂ (λ y z. patch area (at + y) (replicate z 0)) (sym e) rest;
-        address = omega (arith, es, x .size, short, length-replicate {A = ℕ} (12 - length (rightOf x)) 0);
+        address = omega (arith, es, x .size, short, length-replicate {A = ℕ} (symbolsLimit - length (rightOf x)) 0);
       } in
       wrote-then words w

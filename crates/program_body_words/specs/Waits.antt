@@ -5,6 +5,7 @@ use mathlib.Core.Path.{_≡_, sym, ap, _∙_}
 use mathlib.Core.List.{List, [], _∷_, _++_}
 use lib.ListN.{length, drop, drop-of-length-le}
 use lib.Seq.{drop-cons}
+use Rattle.meaning.specs.Limits.{symbolsLimit}
 use Rattle.meaning.specs.Grammar.{terminal, syn, symbolAt}
 use Rattle.meaning.specs.Layout.{symbolByte}
 use Rattle.meaning.specs.Program.{waitWord, waitsFrom, waitRow}
@@ -34,4 +35,4 @@ module _ {row fields inherited synthesized : List ℕ} (x : OfProduction row fie
   -- the levels of the production, and its words written
   pub record LeveledAndWaiting (levels old new : List ℕ) (at : ℕ) : Type 0 where
     pub leveled : Leveled (x .grammar) (x .production) levels
-    pub waiting : Wrote old new at (at + 12) (waitRow (x .grammar) (x .production))
+    pub waiting : Wrote old new at (at + symbolsLimit) (waitRow (x .grammar) (x .production))

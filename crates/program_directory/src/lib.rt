@@ -2,7 +2,7 @@
 ghost use Prim.Native.Nat.{_+_, _≤_, _<_};
 ghost use mathlib.Core.Path.{_≡_};
 ghost use lib.ListN.{length, getD};
-ghost use Rattle.meaning.specs.Limits.{areaLength};
+ghost use Rattle.meaning.specs.Limits.{areaLength, productionsLimit};
 ghost use Rattle.program_block_words.specs.Patch.{Wrote};
 ghost use Rattle.program_words.specs.Directory.{Alternatives, Marked, Recorded, entryAt};
 ghost use Rattle.meaning.specs.Program.{directory};
@@ -40,7 +40,7 @@ fn mark(set: TokenSet, number: u32, area: &mut [u32], from: usize)
 
 // What the directory says of a production, by its number plus 1 and the address of its record: the number, and where its scheme begins if it has no entry tests.
 fn entry(area: &[u32], at: usize, number: u32) -> u32
-    requires { ⌜ (at + 8 ≤ length (now area)) × (number ≤ 128) × (getD (now area) (at + 6) 0 ≤ areaLength) ⌝ }
+    requires { ⌜ (at + 8 ≤ length (now area)) × (number ≤ productionsLimit) × (getD (now area) (at + 6) 0 ≤ areaLength) ⌝ }
     ensures { λ r. ⌜ r ≡ entryAt (now (area .entry)) at number ⌝ }
 {
     if area[at + program_parts::TESTS] == 0 {

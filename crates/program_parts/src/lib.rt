@@ -3,8 +3,8 @@ ghost use Prim.Native.Nat.{_+_, _*_, _≤_, _<_};
 ghost use mathlib.Core.Path.{_≡_};
 ghost use lib.ListN.{length};
 ghost use Rattle.meaning.specs.Grammar.{placeAt, placeProduction, placePassed};
-ghost use Rattle.meaning.specs.Program.{packed};
-ghost use Rattle.theory_program.specs.Parts.{headOf, headOperation, headOperand, directoryNumber, directoryScheme, ruleTarget, ruleFunction, ruleFirst, ruleSecond, conditionKind, conditionFirst, conditionSecond, waitLeft, waitPassed, waitMarked, waitInherited, waitSymbol, inSet};
+ghost use Rattle.meaning.specs.Program.{packed, headOf};
+ghost use Rattle.theory_program.specs.Parts.{headOperation, headOperand, directoryNumber, directoryScheme, ruleTarget, ruleFunction, ruleFirst, ruleSecond, conditionKind, conditionFirst, conditionSecond, waitLeft, waitPassed, waitMarked, waitInherited, waitSymbol, inSet};
 
 // ---- the words on the whole segment
 
@@ -41,7 +41,7 @@ pub const DIRECTORY_SCHEME: usize = 256;
 pub const RECORD_WORDS: usize = 8;
 
 // What the places of a production wait at.
-pub const WAIT_WORDS: usize = 12;
+pub const WAIT_WORDS: usize = limits::SYMBOLS;
 
 // A rule.
 pub const RULE_WORDS: usize = 2;

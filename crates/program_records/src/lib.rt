@@ -3,6 +3,7 @@ ghost use mathlib.Core.Path.{_≡_};
 ghost use lib.ListN.{length};
 ghost use Rattle.program_block_words.specs.Patch.{Wrote};
 ghost use Prim.Native.Nat.{_≤_, _<_};
+ghost use Rattle.meaning.specs.Limits.{nonterminalsLimit, productionsLimit};
 ghost use Rattle.meaning.specs.Grammar.{Grammar};
 ghost use Rattle.outline.specs.Images.{ImageOf};
 ghost use Rattle.outline.specs.Outline.{grammarIn};
@@ -58,7 +59,7 @@ fn write_record(
 
 // The address of what the places of production p wait at, behind the segment's code, the directory and the records.
 fn wait_at(sizes: Sizes, p: usize) -> usize
-    requires { ⌜ (sizes .nonterminals ≤ 48) × (sizes .productions ≤ 128) × (p < 128) ⌝ }
+    requires { ⌜ (sizes .nonterminals ≤ nonterminalsLimit) × (sizes .productions ≤ productionsLimit) × (p < productionsLimit) ⌝ }
     ensures { λ r. ⌜ r ≡ waitFrom (sizes .nonterminals) (sizes .productions) p ⌝ }
 {
     program_parts::DIRECTORY

@@ -3,7 +3,7 @@ use Prim.Native.Nat.{ℕ, _+_, _*_, _≤_, _<_}
 use mathlib.Core.Path.{_≡_, sym}
 use mathlib.Core.List.{List}
 use lib.ListN.{length}
-use Rattle.meaning.specs.Limits.{areaLength}
+use Rattle.meaning.specs.Limits.{areaLength, symbolsLimit}
 use Rattle.meaning.specs.Grammar.{Grammar, productionAt}
 use Rattle.meaning.specs.Rules.{WellFormed}
 use Rattle.meaning.specs.Scheme.{entryTests}
@@ -44,7 +44,7 @@ pub record ProductionFits (table : List ℕ) (sizes : Sizes) (inherited synthesi
   pub behind : body + bodySize (grammarIn table) (productionAt (grammarIn table) p) ≤ areaLength
   pub low : at + 8 ≤ body
   pub long : areaLength ≤ length area
-  pub apart : waitAt (grammarIn table) p + 12 ≤ body
+  pub apart : waitAt (grammarIn table) p + symbolsLimit ≤ body
 
 -- the record is written, then what the places wait at and the body
 pub record ProductionWrote (g : Grammar) (p : ℕ) (old new : List ℕ) (at body next : ℕ) : Type 0 where

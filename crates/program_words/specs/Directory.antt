@@ -1,6 +1,6 @@
 -- The directory: zeros, then what is said of each production at the tokens of its set, the last production first, so that the first one stays.
 use Prim.Native.Nat.{ℕ, zero, suc, _+_, _-_, _*_, _/_, _%_, _^_, _≤_, _<_}
-use native.Mathlib.Nat.{div-eq-of-lt, div-one, zero-div, lt-of-lt-of-le, not-suc-le-zero, pow-suc}
+use native.Mathlib.Nat.{div-eq-of-lt, div-one, zero-div, lt-of-lt-of-le, not-suc-le-zero, pow-suc, zero-add}
 use native.Mathlib.Numerals.{one-add}
 use lib.Count.{trailingZeros, under}
 use native.Mathlib.Omega.{arith}
@@ -127,9 +127,6 @@ bit-there (suc d) n h l = go (n % 2) refl (λ (e : n % 2 ≡ 0). bit-there d (n 
     go zero e ih = ap (λ x. x % 2) (halved n (trailingZeros d (n / 2))) ∙ ih e
     go (suc r) e ih = ap (λ x. x % 2) (div-one n) ∙ omega arith
 
-from-none : (n : ℕ) → 0 + n ≡ n
-from-none n = omega arith
-
 -- ---- all productions from p on
 
 abbrev pub startsOf : Grammar → ℕ → ℕ → Production → Bool
@@ -179,7 +176,7 @@ module _ (g : Grammar) (old : List ℕ) (room : 9 + 64 * nonterminalCount g ≤ 
             let m : n < nonterminalCount g = omega arith in
             let left : getD area i 0 ≡ directoryWord g n u = ap (λ j. getD area j 0) (sym e) ∙ f .words n u m (omega arith) in
             let inside = patch-inside old 9 (directory g) (64 * n + u) (omega (arith, directory-length g)) (omega (arith, directory-length g)) in
-            let word = row-at (directoryWord g) 64 0 (nonterminalCount g) n u m (omega arith) ∙ ap (λ j. directoryWord g j u) (from-none n) in
+            let word = row-at (directoryWord g) 64 0 (nonterminalCount g) n u m (omega arith) ∙ ap (λ j. directoryWord g j u) (zero-add n) in
             let right : getD (patch old 9 (directory g)) i 0 ≡ directoryWord g n u = ap (λ j. getD (patch old 9 (directory g)) j 0) (sym d) ∙ (inside ∙ word) in
             left ∙ sym right
 

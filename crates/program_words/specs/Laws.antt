@@ -9,9 +9,10 @@ use lib.ListN.{length, set, getD}
 use lib.Count.{trailingZeros}
 use lib.Pow.{shr-shr, shr-le}
 use borrow.Author.Tests.{lt-ltb, le-ltb}
+use Rattle.meaning.specs.Limits.{attributesLimit, nonterminalsLimit, productionsLimit, terminalsLimit}
 use Rattle.meaning.specs.Grammar.{Grammar, nonterminal, syn, nonterminalCount}
 use Rattle.meaning.specs.Sets.{has}
-use Rattle.meaning.specs.Program.{setBits, carriers, segmentWords}
+use Rattle.meaning.specs.Program.{setBits, carriers, segmentWords, headOf, predictOperation, nothingOperation}
 use Rattle.meaning.specs.Table.{byte}
 use Rattle.theory_program.specs.Proper.{att-most}
 use Rattle.program_block_words.specs.Patch.{Wrote, wrote-one, wrote-last, wrote-cons, wrote-as, wrote-then}
@@ -89,7 +90,7 @@ mark-end m e = marked-end (m .marked) (sym (m .bits) ∙ e) (m .few)
 -- ---- the whole segment
 
 abbrev segmentBy : ℕ → ℕ → ℕ → ℕ → ℕ → ℕ → ℕ → ℕ → List ℕ
-segmentBy start nonterminals terminals registers result count low high = (3 + 8 * start) ∷ 6 ∷ (9 + 64 * nonterminals) ∷ terminals ∷ registers ∷ result ∷ count ∷ low ∷ high ∷ []
+segmentBy start nonterminals terminals registers result count low high = headOf predictOperation start ∷ nothingOperation ∷ (9 + 64 * nonterminals) ∷ terminals ∷ registers ∷ result ∷ count ∷ low ∷ high ∷ []
 
 module _ {table : List ℕ} {sizes : Sizes} {inherited synthesized rows offsets : List ℕ} (x : Outline table sizes inherited synthesized rows offsets) where
   abbrev g : Grammar
@@ -101,7 +102,7 @@ module _ {table : List ℕ} {sizes : Sizes} {inherited synthesized rows offsets 
   pub start-small : sizes .start < sizes .nonterminals
   start-small = omega (arith, numbers .start, numbers .nonterminals, well-formed x .start)
 
-  pub numbers-small : (sizes .nonterminals ≤ 48) × (sizes .terminals ≤ 63) × (sizes .result ≤ 8) × (sizes .productions ≤ 128)
+  pub numbers-small : (sizes .nonterminals ≤ nonterminalsLimit) × (sizes .terminals ≤ terminalsLimit) × (sizes .result ≤ attributesLimit) × (sizes .productions ≤ productionsLimit)
   numbers-small = (
     omega (arith, numbers .nonterminals, well-formed x .nonterminals .1),
     omega (arith, numbers .terminals, well-formed x .terminals .1),
@@ -114,13 +115,13 @@ module _ {table : List ℕ} {sizes : Sizes} {inherited synthesized rows offsets 
   unfolding bit
   carried-words small = two-words (carriers g) (sizes .carrying .0) small (λ u l. sym (has-bit (sizes .carrying .0) u l) ∙ ap (λ z. has z u) (carried-set (sizes .carrying .0) g (numbers .carrying)))
 
-  pub segment-written : {old one two : List ℕ} {next last registers head : ℕ} → head ≡ 3 + 8 * sizes .start → registers ≡ byte synthesized (sizes .start) → sizes .carrying .0 < 18446744073709551616
-      → Wrote old one 0 next (head ∷ 6 ∷ (9 + 64 * sizes .nonterminals) ∷ sizes .terminals ∷ []) → Wrote one two next last (registers ∷ sizes .result ∷ sizes .productions ∷ sizes .carrying .0 % 4294967296 ∷ [])
+  pub segment-written : {old one two : List ℕ} {next last registers head : ℕ} → head ≡ headOf predictOperation (sizes .start) → registers ≡ byte synthesized (sizes .start) → sizes .carrying .0 < 18446744073709551616
+      → Wrote old one 0 next (head ∷ nothingOperation ∷ (9 + 64 * sizes .nonterminals) ∷ sizes .terminals ∷ []) → Wrote one two next last (registers ∷ sizes .result ∷ sizes .productions ∷ sizes .carrying .0 % 4294967296 ∷ [])
       → Wrote old (set two last (sizes .carrying .0 / 4294967296)) 0 (last + 1) (segmentWords g)
   segment-written {two = two} {last = last} {registers = registers} {head = head} h e small v w = wrote-as same (wrote-then (wrote-then (wrote-as first v) w) (wrote-one two last (sizes .carrying .0 / 4294967296)))
     where
-      first : head ∷ 6 ∷ (9 + 64 * sizes .nonterminals) ∷ sizes .terminals ∷ [] ≡ (3 + 8 * sizes .start) ∷ 6 ∷ (9 + 64 * sizes .nonterminals) ∷ sizes .terminals ∷ []
-      first = ap (λ z. z ∷ 6 ∷ (9 + 64 * sizes .nonterminals) ∷ sizes .terminals ∷ []) h
+      first : head ∷ nothingOperation ∷ (9 + 64 * sizes .nonterminals) ∷ sizes .terminals ∷ [] ≡ headOf predictOperation (sizes .start) ∷ nothingOperation ∷ (9 + 64 * sizes .nonterminals) ∷ sizes .terminals ∷ []
+      first = ap (λ z. z ∷ nothingOperation ∷ (9 + 64 * sizes .nonterminals) ∷ sizes .terminals ∷ []) h
 
       low : ℕ
       low = sizes .carrying .0 % 4294967296

@@ -7,6 +7,7 @@ use mathlib.Core.Bool.{Bool, true, false, not}
 use mathlib.Core.List.{List, [], _∷_}
 use lib.ListN.{length, length-append}
 use lib.Dec.{T, eqb, eqb→eq, eqb-refl, T-not}
+use Rattle.meaning.specs.Limits.{attributesLimit, positionsLimit, symbolsLimit}
 use Rattle.meaning.specs.Base.{In, keep, consIf}
 use Rattle.meaning.specs.Grammar.{nonterminal, Occurrence, Rule, Condition, Production, Grammar, symbolAt}
 use Rattle.meaning.specs.Rules.{OutputAt, Distinct, WellFormed}
@@ -29,32 +30,32 @@ keep-split f (x ∷ xs) = go (f x) (keep-split f xs)
 abbrev hereAt : ℕ → Rule Occurrence → Bool
 hereAt n r = eqb (r .target .position) n
 
-rules-below : (n : ℕ) (rs : List (Rule Occurrence)) → Distinct rs → ((r : Rule Occurrence) → In r rs → (r .target .position < n) × (1 ≤ r .target .attribute) × (r .target .attribute ≤ 8)) → length rs ≤ 8 * n
+rules-below : (n : ℕ) (rs : List (Rule Occurrence)) → Distinct rs → ((r : Rule Occurrence) → In r rs → (r .target .position < n) × (1 ≤ r .target .attribute) × (r .target .attribute ≤ attributesLimit)) → length rs ≤ attributesLimit * n
 rules-below zero [] d h = omega arith
 rules-below zero (r ∷ rs) d h = absurd (omega (arith, h r (inl refl) .0))
 rules-below (suc n) rs d h =
-    let at = rules-few n 8 (keep (hereAt n) rs) (distinct-keep (hereAt n) rs d) (λ r i. own r (in-keep (hereAt n) rs r i)) in
+    let at = rules-few n attributesLimit (keep (hereAt n) rs) (distinct-keep (hereAt n) rs d) (λ r i. own r (in-keep (hereAt n) rs r i)) in
     let below = rules-below n (keep (λ r. not (hereAt n r)) rs) (distinct-keep (λ r. not (hereAt n r)) rs d) (λ r i. other r (in-keep (λ q. not (hereAt n q)) rs r i)) in
     omega (arith, keep-split (hereAt n) rs, at, below)
   where
-    own : (r : Rule Occurrence) → T (hereAt n r) × In r rs → (r .target .position ≡ n) × (1 ≤ r .target .attribute) × (r .target .attribute ≤ 8)
+    own : (r : Rule Occurrence) → T (hereAt n r) × In r rs → (r .target .position ≡ n) × (1 ≤ r .target .attribute) × (r .target .attribute ≤ attributesLimit)
     own r i = let f = h r (i .1) in (eqb→eq (r .target .position) n (i .0), f .1, f .2)
 
-    other : (r : Rule Occurrence) → T (not (hereAt n r)) × In r rs → (r .target .position < n) × (1 ≤ r .target .attribute) × (r .target .attribute ≤ 8)
+    other : (r : Rule Occurrence) → T (not (hereAt n r)) × In r rs → (r .target .position < n) × (1 ≤ r .target .attribute) × (r .target .attribute ≤ attributesLimit)
     other r i =
         let f = h r (i .1) in
         let m : r .target .position ≡ n → ⊥ = λ e. T-not (hereAt n r) (i .0) (rw e (eqb-refl n)) in
         (omega (arith, f .0), f .1, f .2)
 
 module _ (g : Grammar) (w : WellFormed g) (p : Production) where
-  output-small : length (p .right) ≤ 12 → (i a : ℕ) → OutputAt g p i a → (i < 13) × (1 ≤ a) × (a ≤ 8)
+  output-small : length (p .right) ≤ symbolsLimit → (i a : ℕ) → OutputAt g p i a → (i < positionsLimit) × (1 ≤ a) × (a ≤ attributesLimit)
   output-small s zero a o = (omega arith, omega (arith, o .0), omega (arith, o .1, att-most g w (nonterminal (p .left))))
   output-small s (suc i) a o = (omega (arith, o .0), o .1, omega (arith, o .2, att-most g w (symbolAt p (suc i))))
 
   pub rules-most : In p (g .productions) → length (p .rules) ≤ 104
   rules-most i =
       let f = w .each p i in
-      omega (arith, rules-below 13 (p .rules) (f .distinct) (λ r j. output-small (f .short) (r .target .position) (r .target .attribute) (f .targets r j)))
+      omega (arith, rules-below positionsLimit (p .rules) (f .distinct) (λ r j. output-small (f .short) (r .target .position) (r .target .attribute) (f .targets r j)))
 
 -- each takes eight bytes of the table at least
 pub fields-long : {rs : List (Rule Occurrence)} {cs : List (Condition Occurrence)} {d : List ℕ} → RulesAndConditions rs cs d → 8 * (length rs + length cs) ≤ length d

@@ -6,6 +6,7 @@ use mathlib.Core.Path.{_≡_, refl, sym, ap, ap₂, _∙_}
 use mathlib.Core.List.{List}
 use lib.ListN.{length, getD, set, drop, replicate, length-set, getD-replicate}
 use lib.Seq.{getD-set-same, getD-set-other}
+use Rattle.meaning.specs.Limits.{nonterminalsLimit, productionsLimit}
 use Rattle.meaning.specs.Grammar.{Grammar}
 use Rattle.meaning.specs.Program.{firstOf}
 use Rattle.outline.specs.Images.{ImageOf, leftAt}
@@ -13,19 +14,19 @@ use Rattle.program_words.specs.Records.{sameLeft, Nexts, next-found, nex
 
 -- those of the productions from i on, and the first production from i on of each nonterminal
 pub record NextsGo (rows : List ℕ) (count i : ℕ) (nexts firsts : List ℕ) : Type 0 where
-  pub size : length nexts ≡ 128
-  pub wide : length firsts ≡ 48
+  pub size : length nexts ≡ productionsLimit
+  pub wide : length firsts ≡ nonterminalsLimit
   pub done : (g : Grammar) → ImageOf rows count g → (p : ℕ) → i ≤ p → p < count → getD nexts p 0 ≡ firstOf (sameLeft (leftAt rows p)) (p + 1) (drop (p + 1) (g .productions))
-  pub first : (g : Grammar) → ImageOf rows count g → (n : ℕ) → n < 48 → getD firsts n 0 ≡ firstOf (sameLeft n) i (drop i (g .productions))
+  pub first : (g : Grammar) → ImageOf rows count g → (n : ℕ) → n < nonterminalsLimit → getD firsts n 0 ≡ firstOf (sameLeft n) i (drop i (g .productions))
 
 module _ {rows : List ℕ} {count : ℕ} where
-  pub nexts-start : NextsGo rows count count (replicate 128 0) (replicate 48 0)
+  pub nexts-start : NextsGo rows count count (replicate productionsLimit 0) (replicate nonterminalsLimit 0)
   nexts-start =
       record {
         size = refl;
         wide = refl;
         done = λ g x p l m. absurd (omega arith);
-        first = λ g x n l. getD-replicate 48 n nought 0 l ∙ next-none x n count (omega arith);
+        first = λ g x n l. getD-replicate nonterminalsLimit n nought 0 l ∙ next-none x n count (omega arith);
       }
     where
       nought : ℕ
@@ -34,7 +35,7 @@ module _ {rows : List ℕ} {count : ℕ} where
   pub nexts-end : {nexts firsts : List ℕ} → NextsGo rows count 0 nexts firsts → Nexts rows count nexts
   nexts-end o p l g x = o .done g x p (omega arith) l
 
-  module _ {p b : ℕ} {nexts firsts : List ℕ} (o : NextsGo rows count p nexts firsts) (some : 0 < p) (inside : p ≤ count) (few : count ≤ 128) (e : b ≡ leftAt rows (p - 1)) (small : b < 48) where
+  module _ {p b : ℕ} {nexts firsts : List ℕ} (o : NextsGo rows count p nexts firsts) (some : 0 < p) (inside : p ≤ count) (few : count ≤ productionsLimit) (e : b ≡ leftAt rows (p - 1)) (small : b < nonterminalsLimit) where
     again : p ≡ p - 1 + 1
     again = omega arith
 
@@ -55,7 +56,7 @@ module _ {rows : List ℕ} {count : ℕ} where
             ∙ ap₂ (λ y z. firstOf (sameLeft y) z (drop z (g .productions))) e again))
         done g x q l m (no h) = getD-set-other nexts (p - 1) q (getD firsts b 0) 0 h ∙ o .done g x q (omega arith) m
 
-        first : (g : Grammar) → ImageOf rows count g → (n : ℕ) → n < 48 → Dec (n ≡ b) → getD (set firsts b (p - 1 + 1)) n 0 ≡ firstOf (sameLeft n) (p - 1) (drop (p - 1) (g .productions))
+        first : (g : Grammar) → ImageOf rows count g → (n : ℕ) → n < nonterminalsLimit → Dec (n ≡ b) → getD (set firsts b (p - 1 + 1)) n 0 ≡ firstOf (sameLeft n) (p - 1) (drop (p - 1) (g .productions))
         first g x n l (yes h) = rw h (getD-set-same firsts b (p - 1 + 1) 0 (omega (arith, o .wide)) ∙ next-found x b (p - 1) (omega arith) b e refl)
         first g x n l (no h) =
             getD-set-other firsts b n (p - 1 + 1) 0 h

@@ -1,6 +1,6 @@
 -- The records and the bodies, one production after the other.
 use Prim.Native.Nat.{ℕ, zero, suc, _+_, _*_, _/_, _%_, _^_, _≤_, _<_}
-use native.Mathlib.Nat.{div-one}
+use native.Mathlib.Nat.{div-one, add-zero, zero-add}
 use native.Mathlib.Omega.{arith}
 use native.Mathlib.Decide.{ℕ-discrete}
 use mathlib.Core.Path.{_≡_, refl, sym, ap, ap₂, _∙_, subst}
@@ -11,6 +11,7 @@ use lib.Seq.{drop-cons}
 use lib.Pow.{shr-shr, pow-add}
 use lib.Dec.{eqb, eqb→eq}
 use borrow.Author.Tests.{eq-eqb, ne-eqb}
+use native.Mathlib.Numerals.{one-add}
 use Rattle.meaning.specs.Grammar.{Production, Grammar, wholeProduction, productionAt}
 use Rattle.meaning.specs.Rules.{WellFormed}
 use Rattle.meaning.specs.Sets.{TokenSet, has}
@@ -39,26 +40,17 @@ module _ (s : TokenSet) where
   word-is n k zero l h = omega arith
   word-is n k (suc m) l h =
       let double : 2 ^ suc m ≡ 2 * 2 ^ m = ap (λ j. 2 ^ j) (omega arith) ∙ pow-add 2 1 m in
-      let low : n % 2 ≡ cond (has s k) 1 0 = bit-is (has s k) (n % 2) (omega arith) (subst (λ z. eqb (z % 2) 1 ≡ has s k) (div-one n) (subst (λ z. eqb (n / 2 ^ 0 % 2) 1 ≡ has s z) (plus-none k) (h 0 (omega arith)))) in
-      let high : n / 2 ≡ setBits s (suc k) 1 m = word-is (n / 2) (suc k) m (omega (arith, double)) (λ u j. ap (λ z. eqb (z % 2) 1) (shr-shr n 1 u ∙ ap (λ z. n / 2 ^ z) (one-more u)) ∙ (h (suc u) (omega arith) ∙ ap (has s) (slide k u))) in
+      let low : n % 2 ≡ cond (has s k) 1 0 = bit-is (has s k) (n % 2) (omega arith) (subst (λ z. eqb (z % 2) 1 ≡ has s k) (div-one n) (subst (λ z. eqb (n / 2 ^ 0 % 2) 1 ≡ has s z) (add-zero k) (h 0 (omega arith)))) in
+      let high : n / 2 ≡ setBits s (suc k) 1 m = word-is (n / 2) (suc k) m (omega (arith, double)) (λ u j. ap (λ z. eqb (z % 2) 1) (shr-shr n 1 u ∙ ap (λ z. n / 2 ^ z) (one-add u)) ∙ (h (suc u) (omega arith) ∙ ap (has s) (slide k u))) in
       omega (arith, low, high, bits-step s k m)
     where
-      plus-none : (k : ℕ) → k + 0 ≡ k
-      plus-none k = omega arith
-
-      one-more : (u : ℕ) → 1 + u ≡ suc u
-      one-more u = omega arith
-
       slide : (k u : ℕ) → k + suc u ≡ suc k + u
       slide k u = omega arith
 
   pub two-words : (n : ℕ) → n < 2 ^ 64 → ((u : ℕ) → u < 64 → eqb (n / 2 ^ u % 2) 1 ≡ has s u) → (n % 4294967296 ≡ setBits s 0 1 32) × (n / 4294967296 ≡ setBits s 32 1 32)
   two-words n l h =
-      let e : n ≡ setBits s 0 1 64 = word-is n 0 64 l (λ u j. h u j ∙ ap (has s) (from-none u)) in
+      let e : n ≡ setBits s 0 1 64 = word-is n 0 64 l (λ u j. h u j ∙ ap (has s) (sym (zero-add u))) in
       halves n (setBits s 0 1 32) (setBits s 32 1 32) (e ∙ sym (both-words s)) (bits-small s 0 32)
-    where
-      from-none : (u : ℕ) → u ≡ 0 + u
-      from-none u = omega arith
 
 -- ---- the next production of the same left side
 

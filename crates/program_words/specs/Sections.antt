@@ -5,14 +5,14 @@ use mathlib.Core.Path.{_≡_, refl, sym, ap, ap₂, _∙_, subst}
 use mathlib.Core.Bool.{Bool, false}
 use mathlib.Core.List.{List, [], _∷_, _++_, append-assoc}
 use lib.ListN.{length, getD, drop, length-append, length-drop, length-take}
-use Rattle.meaning.specs.Limits.{areaLength}
 use Rattle.meaning.specs.Grammar.{Production, Grammar, nonterminalCount, productionAt, wholeProduction}
-use Rattle.meaning.specs.Layout.{Bytes}
 use Rattle.meaning.specs.Rules.{WellFormed}
 use Rattle.meaning.specs.PublicCalls.{written}
 use Rattle.meaning.specs.Scheme.{entryTests}
 use Rattle.meaning.specs.Sets.{has, starts}
+use Rattle.meaning.specs.Layout.{Bytes}
 use lib.Dec.{eqb}
+use Rattle.meaning.specs.Limits.{areaLength, nonterminalsLimit, productionsLimit, symbolsLimit}
 use Rattle.meaning.specs.Program.{firstOf, entryOf, setBits, schemeOffset, bodyAddress, recordWords, waitRow, recordsFrom, bodiesFrom, bodySize, waits, directory, recordsAddress, waitsAddress, bodiesAddress, segmentWords, programOf}
 use Rattle.theory_base.specs.WellFormed.{listed-at, well-formed-at}
 use Rattle.theory_program.specs.WordsStand.{stands-word}
@@ -45,14 +45,14 @@ module _ (rows sets : List ℕ) (nonterminals count : ℕ) (old : List ℕ) wher
     pub go : (x : Alternatives rows sets nonterminals count) → Recorded (x .grammar) old → Filled (x .grammar) old area p
 
 module _ {rows sets : List ℕ} {nonterminals count : ℕ} (x : Alternatives rows sets nonterminals count) where
-  pub nonterminals-few : nonterminals ≤ 48
+  pub nonterminals-few : nonterminals ≤ nonterminalsLimit
   nonterminals-few = omega (arith, x .isNonterminals, x .rowsOf .sound .nonterminals .1)
 
 module _ {rows : List ℕ} {count : ℕ} {g : Grammar} (x : ImageOf rows count g) where
-  pub count-few : count ≤ 128
+  pub count-few : count ≤ productionsLimit
   count-few = image-of x .few
 
-  pub left-few : (p b : ℕ) → p < count → b ≡ leftAt rows p → b < 48
+  pub left-few : (p b : ℕ) → p < count → b ≡ leftAt rows p → b < nonterminalsLimit
   left-few p b l e = omega (arith, e, image-of x .lefts p l)
 
 module _ {rows sets : List ℕ} {nonterminals count : ℕ} {old : List ℕ} (long : areaLength ≤ length old) where
@@ -147,7 +147,7 @@ module _ {rows sets : List ℕ} {p body entries next : ℕ} {area : List ℕ} {a
 
 -- ---- one production
 
-pub productions-few : {table : List ℕ} {sizes : Sizes} {inherited synthesized rows offsets sets : List ℕ} → Outlined table sizes inherited synthesized rows offsets sets → sizes .productions ≤ 128
+pub productions-few : {table : List ℕ} {sizes : Sizes} {inherited synthesized rows offsets sets : List ℕ} → Outlined table sizes inherited synthesized rows offsets sets → sizes .productions ≤ productionsLimit
 productions-few x = omega (arith, count-is (x .outline), well-formed (x .outline) .productions .1)
 
 module _ {table : List ℕ} {sizes : Sizes} {inherited synthesized rows offsets sets : List ℕ} {p : ℕ} {area : List ℕ} {at body : ℕ} (x : ProductionFits table sizes inherited synthesized rows offsets sets p area at body) (bytes : Bytes table) where
@@ -287,7 +287,7 @@ pub record ProductionsPart (g : Grammar) (old : List ℕ) (p : ℕ) (area : List
   pub growing : Growing (withWaits g old) (withAll g (withWaits g old)) (bodiesAddress g + length (allBodies g)) (patch area (waitAt g p) (restWaits g p)) at body (restRecords g p body) (restBodies g p body)
   pub place : at ≡ recordsAddress g + 8 * p
   pub above : bodiesAddress g ≤ body
-  pub waiting : length (restWaits g p) + 12 * p ≡ 12 * length (g .productions)
+  pub waiting : length (restWaits g p) + symbolsLimit * p ≡ symbolsLimit * length (g .productions)
 
 module _ {table : List ℕ} {sizes : Sizes} {inherited synthesized rows offsets sets : List ℕ} (x : Outlined table sizes inherited synthesized rows offsets sets) where
   abbrev tg : Grammar
@@ -344,13 +344,13 @@ module _ {table : List ℕ} {sizes : Sizes} {inherited synthesized rows offsets 
           abbrev row : List ℕ
           row = waitRow tg (productionAt tg p)
 
-          row-long : length row ≡ 12
+          row-long : length row ≡ symbolsLimit
           row-long = wait-row-length tg (productionAt tg p) (well-formed-at tg (well-formed (x .outline)) p counted .short)
 
           left-is : restWaits tg p ≡ row ++ restWaits tg (p + 1)
           left-is = waits-turn tg (well-formed (x .outline)) p counted
 
-          left-long : length (restWaits tg (p + 1)) + 12 * (p + 1) ≡ 12 * length (tg .productions)
+          left-long : length (restWaits tg (p + 1)) + symbolsLimit * (p + 1) ≡ symbolsLimit * length (tg .productions)
           left-long = omega (arith, s .waiting, ap length left-is, length-append row (restWaits tg (p + 1)), row-long)
 
           next-is : waitAt tg p + length row ≡ waitAt tg (p + 1)

@@ -5,6 +5,7 @@ use mathlib.Core.Path.{_≡_, sym, ap, _∙_}
 use mathlib.Core.List.{List, [], _∷_, _++_, map}
 use lib.ListN.{length, drop, drop-of-length-le}
 use lib.Seq.{drop-cons}
+use Rattle.meaning.specs.Limits.{symbolsLimit}
 use Rattle.meaning.specs.Grammar.{Grammar, wholeProduction, productionAt}
 use Rattle.meaning.specs.Rules.{WellFormed}
 use Rattle.meaning.specs.Program.{concat, waitRow, waitsAddress}
@@ -12,11 +13,11 @@ use Rattle.theory_base.specs.WellFormed.{listed-at}
 
 -- where those of production p begin
 abbrev pub waitAt : Grammar → ℕ → ℕ
-waitAt g p = waitsAddress g + 12 * p
+waitAt g p = waitsAddress g + symbolsLimit * p
 
 -- the same by how many nonterminals and productions there are
 abbrev pub waitFrom : ℕ → ℕ → ℕ → ℕ
-waitFrom nonterminals productions p = 9 + 64 * nonterminals + 8 * productions + 12 * p
+waitFrom nonterminals productions p = 9 + 64 * nonterminals + 8 * productions + symbolsLimit * p
 
 -- those of the productions from p on
 unfoldable pub restWaits : Grammar → ℕ → List ℕ

@@ -17,7 +17,8 @@ use Rattle.meaning_ranking.specs.RankCall.{inOrder, evaluations, rankEffect, un
 use Rattle.theory_ranking.specs.Entries.{entriesOf}
 use Rattle.theory_ranking.specs.Cells.{length-cells, length-entries}
 use Rattle.prepare.specs.Making.{ProgramStands}
-use Rattle.run_fit.specs.HasProgram.{HasProgram, Readable}
+use Rattle.prepare.specs.Beginning.{standing-shown}
+use Rattle.run_fit.specs.HasProgram.{HasProgram}
 use Rattle.rank_candidates.specs.Each.{AllDone}
 use Rattle.rank_report.specs.declared.Ranked.{Ranked}
 use Rattle.rank_report.specs.declared.Ranked.the-variants.{Done, Refused}
@@ -70,15 +71,9 @@ module _ (t area ns ks : List ℕ) (us l : List ℤ) (m : Stacks) where
       rank-usable s q = long ∙ ap (λ c. rankUnder programOf c area ns ks us l m) q
 
 module _ {t area area′ : List ℕ} {size : ℕ} (a : ProgramStands t area area′ size) where
-  pub standing-shown : HasProgram (grammarOf (a .state)) area′
-  standing-shown = record { formed = a .formed; begins = a .begins }
-
-  pub standing-readable : Readable area′
-  standing-readable = record { grammar = grammarOf (a .state); shown = standing-shown }
-
   pub standing-ranked : (ns ks : List ℕ) (us l₀ vs₀ : List ℤ) (ps₀ : List ℕ) (l vs : List ℤ) (ps : List ℕ) (r : Ranked) → inOrder ns ks l₀ ≡ true → ListedAs area′ ns ks us l₀ vs₀ ps₀ l vs ps r → rankIs r l vs ps area′ ≡ rankOf programOf t area ns ks us l₀ (stacksOf vs₀ ps₀)
   standing-ranked ns ks us l₀ vs₀ ps₀ l vs ps r e k =
       let g : Grammar = grammarOf (a .state) in
-      k g standing-shown area′
+      k g (standing-shown a) area′
       ∙ (ap (λ w. rankEven (eqb (length ks) (length us)) l₀ (stacksOf vs₀ ps₀) w (listed (evaluations g 0 ns ks us (stacksOf vs₀ ps₀)) l₀ w)) (a .isWritten)
       ∙ sym (rank-usable t area ns ks us l₀ (stacksOf vs₀ ps₀) e (a .long) (a .state) (a .isUsable)))

@@ -1,6 +1,7 @@
 // What a ranking answers, and the report of the entries: in order, with how many are valued and their total.
 ghost use Prim.Native.Nat.{_*_, _≤_};
 ghost use lib.ListN.{length};
+ghost use Rattle.meaning.specs.Limits.{candidatesLimit};
 ghost use Rattle.theory_ranking.specs.Entries.{Distinct, Ranged, entriesOf};
 ghost use Rattle.rank_report.specs.Report.{Reported};
 
@@ -20,7 +21,7 @@ pub enum Ranked {
 
 // The first `count` entries in order, and what they come to.
 pub fn report(list: &mut [i64], count: usize) -> Ranked
-    requires { ⌜ (count ≤ 512) × (3 * count ≤ length (now list)) × Ranged (entriesOf count (now list)) × Distinct (entriesOf count (now list)) ⌝ }
+    requires { ⌜ (count ≤ candidatesLimit) × (3 * count ≤ length (now list)) × Ranged (entriesOf count (now list)) × Distinct (entriesOf count (now list)) ⌝ }
     ensures { λ r. ⌜ Reported count (now (list .entry)) (now (list .exit)) r ⌝ }
 {
     rank_sort::rank(list, count);

@@ -2,29 +2,22 @@
 ghost use Prim.Native.Nat.{_≤_, _<_};
 ghost use mathlib.Core.Path.{_≡_};
 ghost use lib.ListN.{length, getD};
+ghost use Rattle.meaning.specs.Limits.{candidatesLimit};
 ghost use Rattle.meaning.specs.Base.{total};
 ghost use Rattle.meaning_ranking.specs.RankCall.{inOrder};
-
-// 02: "up to 512 candidate segments".
-const MOST: usize = 512;
+use limits::CANDIDATES;
 
 // A length among others.
 fn length_at(lengths: &[u32], i: usize) -> usize
     requires { ⌜ i < length (now lengths) ⌝ }
     ensures { λ r. ⌜ (r ≡ getD (now (lengths .entry)) i 0) × (r < 4294967296) ⌝ }
 {
-    wide(lengths[i])
-}
-
-fn wide(x: u32) -> usize
-    ensures { λ r. ⌜ (r ≡ x) × (r < 4294967296) ⌝ }
-{
-    x as usize
+    value::index_of(lengths[i])
 }
 
 // The exact sum: 512 lengths are below 2^41.
 fn sum_of(lengths: &[u32]) -> usize
-    requires { ⌜ length (now lengths) ≤ 512 ⌝ }
+    requires { ⌜ length (now lengths) ≤ candidatesLimit ⌝ }
     ensures { λ r. ⌜ r ≡ total (now (lengths .entry)) ⌝ }
 {
     let mut sum = 0;
@@ -40,7 +33,7 @@ fn sum_of(lengths: &[u32]) -> usize
 pub fn in_order(lengths: &[u32], kinds: &[u8], list: &[i64]) -> bool
     ensures { λ r. ⌜ r ≡ inOrder (now (lengths .entry)) (now (kinds .entry)) (now (list .entry)) ⌝ }
 {
-    if MOST < lengths.len() {
+    if CANDIDATES < lengths.len() {
         return false;
     }
     if sum_of(lengths) != kinds.len() {

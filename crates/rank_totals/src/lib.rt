@@ -2,6 +2,7 @@
 ghost use Prim.Native.Nat.{_+_, _*_, _≤_};
 ghost use mathlib.Core.Path.{_≡_};
 ghost use lib.ListN.{length};
+ghost use Rattle.meaning.specs.Limits.{candidatesLimit};
 ghost use Rattle.meaning_ranking.specs.Ranking.{worth, valued, totalOf, valuedOf};
 ghost use Rattle.theory_ranking.specs.Entries.{Ranged, entriesOf, entryAt};
 
@@ -28,7 +29,7 @@ fn worth_at(list: &[i64], i: usize) -> i64
 
 // The exact total of the values.
 pub fn total(list: &[i64], count: usize) -> i64
-    requires { ⌜ (count ≤ 512) × (3 * count ≤ length (now list)) × Ranged (entriesOf count (now list)) ⌝ }
+    requires { ⌜ (count ≤ candidatesLimit) × (3 * count ≤ length (now list)) × Ranged (entriesOf count (now list)) ⌝ }
     ensures { λ r. ⌜ r ≡ totalOf (entriesOf count (now (list .entry))) ⌝ }
 {
     let mut sum: i64 = 0;

@@ -6,6 +6,7 @@ use mathlib.Core.Bool.{Bool, true, false, _&&_}
 use mathlib.Core.List.{List}
 use lib.ListN.{length, getD}
 use lib.IntN.{ℤ}
+use Rattle.meaning.specs.Limits.{productionsLimit}
 use Rattle.meaning.specs.Base.{In, all}
 use Rattle.meaning.specs.Grammar.{Grammar, Condition, productionAt}
 use Rattle.meaning.specs.Value.{holds}
@@ -100,7 +101,7 @@ pub record Led (ws : List ℕ) (rs : List ℤ) (p : ℕ) : Type 0 where
 -- how many productions may still come
 unfoldable pub turns : ℕ → ℕ
 turns zero = 0
-turns (suc q) = 128 - q
+turns (suc q) = productionsLimit - q
 
 module _ {g : Grammar} {ws : List ℕ} {rs : List ℤ} {n p : ℕ} (s : Leads g ws rs n p) where
   abbrev here : ℕ → Type 0
@@ -123,7 +124,7 @@ module _ {g : Grammar} {ws : List ℕ} {rs : List ℤ} {n p : ℕ} (s : Leads g 
     below : found-q < length (g .productions)
     below = at-production z .1 .1
 
-    pub production-small : p ≤ 128
+    pub production-small : p ≤ productionsLimit
     production-small = omega (arith, is-suc, below, s .wellFormed .productions .1)
 
     pub testable-of : Testable ws rs (recordOf ws p)

@@ -3,6 +3,7 @@ ghost use Prim.Native.Nat.{ℕ, _+_, _≤_, _<_};
 ghost use mathlib.Core.Path.{_≡_};
 ghost use mathlib.Core.Bool.{true, _&&_};
 ghost use lib.ListN.{length};
+ghost use Rattle.meaning.specs.Limits.{productionsLimit};
 ghost use Rattle.meaning.specs.Grammar.{Grammar};
 ghost use Rattle.theory_program.specs.Search.{found};
 ghost use Rattle.run_registers.specs.Stack.{stack};
@@ -11,7 +12,7 @@ ghost use Rattle.run_alternatives.specs.Predicting.{recordOf, holdsAt, e
 
 // The address of a production's record, by its number plus 1.
 pub fn record_of(program: &[u32], p: usize) -> usize
-    requires { ⌜ (2 < length (now program)) × (1 ≤ p) × (p ≤ 128) ⌝ }
+    requires { ⌜ (2 < length (now program)) × (1 ≤ p) × (p ≤ productionsLimit) ⌝ }
     ensures { λ r. ⌜ r ≡ recordOf (now (program .entry)) p ⌝ }
 {
     run_moves::word_at(program, program_parts::RECORDS) + program_parts::RECORD_WORDS * (p - 1)

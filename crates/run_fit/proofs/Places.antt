@@ -10,7 +10,7 @@ use lib.IntN.{ℤ}
 use lib.Dec.{eqb}
 use lib.ListN.{length, getD, drop, replicate, drop-of-length-le, replicate-append-replicate}
 use lib.Seq.{drop-cons}
-use Rattle.meaning.specs.Grammar.{Symbol, nonterminal, Grammar, syn, segmentPlace}
+use Rattle.meaning.specs.Grammar.{Symbol, nonterminal, Grammar, syn, segmentPlace, nonterminalBase}
 use Rattle.meaning.specs.Table.{symbolOf}
 use Rattle.meaning.specs.Calls.{Cell, valued, marked, cellsFit, awaited}
 use Rattle.theory_program.specs.Parts.{headOperand, waitLeft, waitPassed, waitMarked, waitInherited, waitSymbol}
@@ -27,9 +27,9 @@ abbrev pub follow : Grammar → ℕ → List ℕ → List ℤ → ℕ → Bool
 follow g v ps vs at = not (eqb v 0) && (placesAbove g (symbolOf (waitSymbol v)) ps && fitsFrom vs at (replicate (waitInherited v) valued ++ cellsAbove g ps))
 
 -- above the bottom place, whose word has the start symbol alone
-pub follow-start : {g : Grammar} {ws : List ℕ} → HasProgram g ws → (ps : List ℕ) (vs : List ℤ) (at : ℕ) → stands g (nonterminal (g .start)) ps vs at ≡ follow g ((128 + headOperand (getD ws 0 0)) * 2097152) ps vs at
+pub follow-start : {g : Grammar} {ws : List ℕ} → HasProgram g ws → (ps : List ℕ) (vs : List ℤ) (at : ℕ) → stands g (nonterminal (g .start)) ps vs at ≡ follow g ((nonterminalBase + headOperand (getD ws 0 0)) * 2097152) ps vs at
 follow-start {g} {ws} s ps vs at =
-    let v : ℕ = (128 + headOperand (getD ws 0 0)) * 2097152 in
+    let v : ℕ = (nonterminalBase + headOperand (getD ws 0 0)) * 2097152 in
     let none : waitInherited v ≡ 0 = omega arith in
     sym (rw (ne-eqb v 0 (λ e. omega arith), start-symbol s, none) refl)
 
@@ -50,14 +50,14 @@ module _ {g : Grammar} {ws : List ℕ} (s : HasProgram g ws) (vs : List ℤ) (pl
   unfolding placesAbove cellsAbove
   follow-here = rw (add-one i, drop-cons places i 0 l, ← on-word s here awaitedByte) refl
 
-  pub follow-not : eqb (128 + waitLeft next) awaitedByte ≡ false → follow g v (drop i places) vs at ≡ false
+  pub follow-not : eqb (nonterminalBase + waitLeft next) awaitedByte ≡ false → follow g v (drop i places) vs at ≡ false
   follow-not e = follow-here ∙ rw (e, and-false (not (eqb next 0))) (and-false (not (eqb v 0)))
 
-  pub follow-turn : {r : ℕ} → eqb (128 + waitLeft next) awaitedByte ≡ true → Passes vs (cellsBetween v next) at r → follow g v (drop i places) vs at ≡ follow g next (drop (i + 1) places) vs r
+  pub follow-turn : {r : ℕ} → eqb (nonterminalBase + waitLeft next) awaitedByte ≡ true → Passes vs (cellsBetween v next) at r → follow g v (drop i places) vs at ≡ follow g next (drop (i + 1) places) vs r
   follow-turn {r} e p = by (eqb next 0) refl
     where
       some : eqb v 0 ≡ false
-      some = ne-eqb v 0 (λ z. omega (arith, eqb-true (128 + waitLeft next) awaitedByte e))
+      some = ne-eqb v 0 (λ z. omega (arith, eqb-true (nonterminalBase + waitLeft next) awaitedByte e))
 
       by : (b : Bool) → eqb next 0 ≡ b → follow g v (drop i places) vs at ≡ not b && (placesAbove g (symbolOf (waitSymbol next)) (drop (i + 1) places) && fitsFrom vs r (replicate (waitInherited next) valued ++ cellsAbove g (drop (i + 1) places)))
       by true d = follow-here ∙ rw d (and-false (not (eqb v 0)))
@@ -73,9 +73,9 @@ module _ {g : Grammar} {ws : List ℕ} (s : HasProgram g ws) (vs : List ℤ) (pl
 -- ---- equal places
 
 -- w is the word of place p, which can stand on itself
-module _ {g : Grammar} {ws : List ℕ} (s : HasProgram g ws) (vs : List ℤ) (p w : ℕ) (d : w ≡ waitAt ws p) (e : eqb (128 + waitLeft w) (waitSymbol w) ≡ true) where
+module _ {g : Grammar} {ws : List ℕ} (s : HasProgram g ws) (vs : List ℤ) (p w : ℕ) (d : w ≡ waitAt ws p) (e : eqb (nonterminalBase + waitLeft w) (waitSymbol w) ≡ true) where
   on-itself : wordOn (waitAt ws p) (waitSymbol w) ≡ true
-  on-itself = ap (λ v. wordOn v (waitSymbol w)) (sym d) ∙ rw (ne-eqb w 0 (λ z. omega (arith, eqb-true (128 + waitLeft w) (waitSymbol w) e)), e) refl
+  on-itself = ap (λ v. wordOn v (waitSymbol w)) (sym d) ∙ rw (ne-eqb w 0 (λ z. omega (arith, eqb-true (nonterminalBase + waitLeft w) (waitSymbol w) e)), e) refl
 
   waits-for : symbolOf (waitSymbol w) ≡ awaited g p
   waits-for = ap (λ v. symbolOf (waitSymbol v)) d ∙ symbol-awaited s p (waitSymbol w) on-itself

@@ -7,8 +7,8 @@ use mathlib.Core.List.{List, _++_}
 use borrow.Author.Tests.{lt-ltb, le-ltb, ltb-true, ltb-false, eq-eqb, ne-eqb, eqb-true, eqb-false}
 use lib.ListN.{getD, length, replicate}
 use lib.Dec.{T, eqb, ltb, ltb→lt}
-use Rattle.meaning.specs.Limits.{registersLimit}
-use Rattle.meaning.specs.Grammar.{terminal, nonterminal, Grammar, productionAt, syn, isNonterminal, placeProduction, placePassed}
+use Rattle.meaning.specs.Limits.{registersLimit, nonterminalsLimit, symbolsLimit}
+use Rattle.meaning.specs.Grammar.{terminal, nonterminal, Grammar, productionAt, syn, isNonterminal, placeProduction, placePassed, nonterminalBase}
 use Rattle.meaning.specs.Rules.{WellFormed}
 use Rattle.meaning.specs.Table.{symbolOf}
 use Rattle.meaning.specs.Calls.{Cell, valued, marked, awaited}
@@ -41,15 +41,15 @@ pub record RowsAt (ws : List ℕ) (count begin : ℕ) : Type 0 where
 
 -- the address of the word of place p
 abbrev pub wordAddress : List ℕ → ℕ → ℕ
-wordAddress ws p = getD ws 2 0 + 8 * getD ws 6 0 + 12 * placeProduction p + placePassed p
+wordAddress ws p = getD ws 2 0 + 8 * getD ws 6 0 + symbolsLimit * placeProduction p + placePassed p
 
 -- the word of place p; 0 where it has no production, or more symbols passed than any right side has
 unfoldable pub waitAt : List ℕ → ℕ → ℕ
-waitAt ws p = cond (ltb (placeProduction p) (getD ws 6 0)) (cond (ltb (placePassed p) 12) (getD ws (wordAddress ws p) 0) 0) 0
+waitAt ws p = cond (ltb (placeProduction p) (getD ws 6 0)) (cond (ltb (placePassed p) symbolsLimit) (getD ws (wordAddress ws p) 0) 0) 0
 
 -- a place with word v waits, and its left side is the symbol with byte x
 abbrev pub wordOn : ℕ → ℕ → Bool
-wordOn v x = not (eqb v 0) && eqb (128 + waitLeft v) x
+wordOn v x = not (eqb v 0) && eqb (nonterminalBase + waitLeft v) x
 
 -- the registers of a place with word v, the lowest first
 abbrev pub cellsIn : ℕ → List Cell
@@ -60,34 +60,34 @@ module _ (ws : List ℕ) (p : ℕ) where
   unfolding waitAt
   wait-unlisted l = rw (le-ltb (placeProduction p) (getD ws 6 0) l) refl
 
-  pub wait-passed : 12 ≤ placePassed p → waitAt ws p ≡ 0
+  pub wait-passed : symbolsLimit ≤ placePassed p → waitAt ws p ≡ 0
   unfolding waitAt
   wait-passed l = by (ltb (placeProduction p) (getD ws 6 0))
     where
-      by : (b : Bool) → cond b (cond (ltb (placePassed p) 12) (getD ws (wordAddress ws p) 0) 0) 0 ≡ 0
-      by true = rw (le-ltb (placePassed p) 12 l) refl
+      by : (b : Bool) → cond b (cond (ltb (placePassed p) symbolsLimit) (getD ws (wordAddress ws p) 0) 0) 0 ≡ 0
+      by true = rw (le-ltb (placePassed p) symbolsLimit l) refl
       by false = refl
 
-  pub wait-word : placeProduction p < getD ws 6 0 → placePassed p < 12 → waitAt ws p ≡ getD ws (wordAddress ws p) 0
+  pub wait-word : placeProduction p < getD ws 6 0 → placePassed p < symbolsLimit → waitAt ws p ≡ getD ws (wordAddress ws p) 0
   unfolding waitAt
-  wait-word l m = rw (lt-ltb (placeProduction p) (getD ws 6 0) l, lt-ltb (placePassed p) 12 m) refl
+  wait-word l m = rw (lt-ltb (placeProduction p) (getD ws 6 0) l, lt-ltb (placePassed p) symbolsLimit m) refl
 
 -- ---- symbols by their bytes
 
-pub symbol-high : (n : ℕ) → symbolOf (128 + n) ≡ nonterminal n
-symbol-high n = symbol-nonterminal (128 + n) (omega arith) ∙ ap nonterminal (omega arith)
+pub symbol-high : (n : ℕ) → symbolOf (nonterminalBase + n) ≡ nonterminal n
+symbol-high n = symbol-nonterminal (nonterminalBase + n) (omega arith) ∙ ap nonterminal (omega arith)
 
 -- the symbol with byte x is nonterminal n
-named : (n x : ℕ) → isNonterminal n (symbolOf x) ≡ eqb (128 + n) x
-named n x = by (ltb x 128) refl
+named : (n x : ℕ) → isNonterminal n (symbolOf x) ≡ eqb (nonterminalBase + n) x
+named n x = by (ltb x nonterminalBase) refl
   where
-    high : (b : Bool) → eqb (128 + n) x ≡ b → 128 ≤ x → eqb (x - 128) n ≡ b
-    high true e l = eq-eqb (x - 128) n (omega (arith, eqb-true (128 + n) x e))
-    high false e l = ne-eqb (x - 128) n (λ d. eqb-false (128 + n) x e (omega arith))
+    high : (b : Bool) → eqb (nonterminalBase + n) x ≡ b → nonterminalBase ≤ x → eqb (x - nonterminalBase) n ≡ b
+    high true e l = eq-eqb (x - nonterminalBase) n (omega (arith, eqb-true (nonterminalBase + n) x e))
+    high false e l = ne-eqb (x - nonterminalBase) n (λ d. eqb-false (nonterminalBase + n) x e (omega arith))
 
-    by : (b : Bool) → ltb x 128 ≡ b → isNonterminal n (symbolOf x) ≡ eqb (128 + n) x
-    by true e = rw (symbol-terminal x (ltb-true x 128 e)) (sym (ne-eqb (128 + n) x (λ d. omega (arith, ltb-true x 128 e))))
-    by false e = rw (symbol-nonterminal x (ltb-false x 128 e)) (high (eqb (128 + n) x) refl (ltb-false x 128 e))
+    by : (b : Bool) → ltb x nonterminalBase ≡ b → isNonterminal n (symbolOf x) ≡ eqb (nonterminalBase + n) x
+    by true e = rw (symbol-terminal x (ltb-true x nonterminalBase e)) (sym (ne-eqb (nonterminalBase + n) x (λ d. omega (arith, ltb-true x nonterminalBase e))))
+    by false e = rw (symbol-nonterminal x (ltb-false x nonterminalBase e)) (high (eqb (nonterminalBase + n) x) refl (ltb-false x nonterminalBase e))
 
 -- ---- of a grammar
 
@@ -103,7 +103,7 @@ module _ {g : Grammar} {ws : List ℕ} (s : HasProgram g ws) where
     address-is : wordAddress ws p ≡ waitAddress g (placeProduction p) + placePassed p
     address-is = omega (arith, segment-words (s .begins) .records, productions-are)
 
-    pub word-inside : placeProduction p < getD ws 6 0 → placePassed p < 12 → wordAddress ws p < length ws
+    pub word-inside : placeProduction p < getD ws 6 0 → placePassed p < symbolsLimit → wordAddress ws p < length ws
     word-inside l m =
         let k : placeProduction p < length (g .productions) = omega (arith, productions-are) in
         let f = well-formed-at g (s .formed) (placeProduction p) k in
@@ -115,7 +115,7 @@ module _ {g : Grammar} {ws : List ℕ} (s : HasProgram g ws) where
           let f = well-formed-at g (s .formed) (placeProduction p) l in
           subst (Waits g (productionAt g (placeProduction p)) (placePassed p)) (sym (wait-word ws p (omega (arith, productions-are)) (omega (arith, f .short)) ∙ ap (λ a. getD ws a 0) address-is)) (place-waits (s .begins) (s .formed) (placeProduction p) l (placePassed p) k)
 
-      rests-at : length (productionAt g (placeProduction p) .right) ≤ placePassed p → placePassed p < 12 → waitAt ws p ≡ 0
+      rests-at : length (productionAt g (placeProduction p) .right) ≤ placePassed p → placePassed p < symbolsLimit → waitAt ws p ≡ 0
       rests-at k m = wait-word ws p (omega (arith, productions-are)) m ∙ (ap (λ a. getD ws a 0) address-is ∙ place-rests (s .begins) (s .formed) (placeProduction p) l (placePassed p) k m)
 
       -- a place that waits has a word, one that does not has none
@@ -126,11 +126,11 @@ module _ {g : Grammar} {ws : List ℕ} (s : HasProgram g ws) where
           by true e =
               let v = waits-at (ltb-true (placePassed p) (length (productionAt g (placeProduction p) .right)) e) in
               rw (ne-eqb (waitAt ws p) 0 (λ z. omega (arith, v .some)), v .left) (sym (named (productionAt g (placeProduction p) .left) x))
-          by false e = rw (none (ltb-false (placePassed p) (length (productionAt g (placeProduction p) .right)) e) (ltb (placePassed p) 12) refl) refl
+          by false e = rw (none (ltb-false (placePassed p) (length (productionAt g (placeProduction p) .right)) e) (ltb (placePassed p) symbolsLimit) refl) refl
             where
-              none : length (productionAt g (placeProduction p) .right) ≤ placePassed p → (b : Bool) → ltb (placePassed p) 12 ≡ b → waitAt ws p ≡ 0
-              none k true d = rests-at k (ltb-true (placePassed p) 12 d)
-              none k false d = wait-passed ws p (ltb-false (placePassed p) 12 d)
+              none : length (productionAt g (placeProduction p) .right) ≤ placePassed p → (b : Bool) → ltb (placePassed p) symbolsLimit ≡ b → waitAt ws p ≡ 0
+              none k true d = rests-at k (ltb-true (placePassed p) symbolsLimit d)
+              none k false d = wait-passed ws p (ltb-false (placePassed p) symbolsLimit d)
 
     pub on-word : (x : ℕ) → wordOn (waitAt ws p) x ≡ placeOn g (symbolOf x) p
     on-word x = by (ltb (placeProduction p) (length (g .productions))) refl
@@ -163,9 +163,9 @@ module _ {g : Grammar} {ws : List ℕ} (s : HasProgram g ws) where
   start-small = omega (arith, start-count, att-most g (s .formed) (nonterminal (g .start)))
 
   -- a word that has the start symbol alone
-  pub start-symbol : symbolOf (waitSymbol ((128 + headOperand (getD ws 0 0)) * 2097152)) ≡ nonterminal (g .start)
+  pub start-symbol : symbolOf (waitSymbol ((nonterminalBase + headOperand (getD ws 0 0)) * 2097152)) ≡ nonterminal (g .start)
   start-symbol =
       let e : headOperand (getD ws 0 0) ≡ g .start = omega (arith, segment-words (s .begins) .expected) in
-      let f : g .start < 48 = omega (arith, s .formed .start, s .formed .nonterminals .1) in
-      let d : waitSymbol ((128 + headOperand (getD ws 0 0)) * 2097152) ≡ 128 + headOperand (getD ws 0 0) = omega arith in
+      let f : g .start < nonterminalsLimit = omega (arith, s .formed .start, s .formed .nonterminals .1) in
+      let d : waitSymbol ((nonterminalBase + headOperand (getD ws 0 0)) * 2097152) ≡ nonterminalBase + headOperand (getD ws 0 0) = omega arith in
       ap symbolOf d ∙ (symbol-high (headOperand (getD ws 0 0)) ∙ ap nonterminal e)

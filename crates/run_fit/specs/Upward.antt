@@ -15,20 +15,15 @@ use Rattle.meaning.specs.Calls.{Cell, valued, marked, cellFits, cellsFit, waiti
 use Rattle.theory_answers.specs.FitTest.{syn-cells, alone}
 use Rattle.run_registers.specs.Stack.{reverse-replicate}
 use Rattle.run_fit_past.specs.Passing.{unfit, valuedThenMarked}
+use Rattle.theory_base.specs.Members.{and-swap}
 
 -- ---- cells that fit, from the other end
-
-and-swap : (a b c : Bool) → a && (b && c) ≡ (b && a) && c
-and-swap true true c = refl
-and-swap true false c = refl
-and-swap false true c = refl
-and-swap false false c = refl
 
 fit-turned : (cs ds : List Cell) (vs ws : List ℤ) → length ds ≡ length ws → cellsFit (reverseAux cs ds) (reverseAux vs ws) ≡ cellsFit cs vs && cellsFit ds ws
 fit-turned [] ds [] ws e = refl
 fit-turned [] ds (v ∷ vs) ws e = unfit ds (reverseAux vs (v ∷ ws)) (λ d. omega (arith, length-reverseAux vs (v ∷ ws)))
 fit-turned (c ∷ cs) ds [] ws e = unfit (reverseAux cs (c ∷ ds)) ws (λ d. omega (arith, length-reverseAux cs (c ∷ ds)))
-fit-turned (c ∷ cs) ds (v ∷ vs) ws e = fit-turned cs (c ∷ ds) vs (v ∷ ws) (ap suc e) ∙ and-swap (cellsFit cs vs) (cellFits c v) (cellsFit ds ws)
+fit-turned (c ∷ cs) ds (v ∷ vs) ws e = fit-turned cs (c ∷ ds) vs (v ∷ ws) (ap suc e) ∙ (and-swap (cellsFit cs vs) (cellFits c v) (cellsFit ds ws) ∙ sym (and-assoc (cellFits c v) (cellsFit cs vs) (cellsFit ds ws)))
 
 fit-reverse : (cs : List Cell) (vs : List ℤ) → cellsFit cs (reverse vs) ≡ cellsFit (reverse cs) vs
 fit-reverse cs vs = sym (and-true (cellsFit cs (reverse vs))) ∙ (sym (fit-turned cs [] (reverse vs) [] refl) ∙ ap (cellsFit (reverse cs)) (reverse-reverse vs))

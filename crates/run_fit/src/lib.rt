@@ -6,7 +6,7 @@ ghost use mathlib.Core.List.{_++_};
 ghost use lib.ListN.{length, drop, replicate};
 ghost use lib.Dec.{eqb};
 ghost use Rattle.meaning.specs.Limits.{registersLimit, placesLimit};
-ghost use Rattle.meaning.specs.Grammar.{Grammar, nonterminal};
+ghost use Rattle.meaning.specs.Grammar.{Grammar, nonterminal, nonterminalBase};
 ghost use Rattle.meaning.specs.Calls.{stacksFit};
 ghost use Rattle.theory_program.specs.Parts.{waitLeft, waitSymbol};
 ghost use Rattle.run_fit_past.specs.Passing.{fitsFrom};
@@ -61,7 +61,7 @@ fn wait_word(program: &[u32], rows: WaitSection, place: usize) -> usize
 
 // Whether the left side of a place with word `next` is the symbol that one with word `word` waits at. 0, the word of a place that does not wait, waits at no nonterminal.
 fn stands_on(next: usize, word: usize) -> bool
-    ensures { λ r. ⌜ r ≡ eqb (128 + waitLeft next) (waitSymbol word) ⌝ }
+    ensures { λ r. ⌜ r ≡ eqb (nonterminalBase + waitLeft next) (waitSymbol word) ⌝ }
 {
     128 + program_parts::wait_left(next) == program_parts::wait_symbol(word)
 }

@@ -2,7 +2,7 @@
 use Prim.Native.Nat.{ℕ, _+_, _<_, _≤_}
 use native.Mathlib.Omega.{arith}
 use mathlib.Core.Path.{_≡_, refl, sym, ap, ap₂, _∙_}
-use mathlib.Core.Bool.{Bool, true, false, _&&_, and-true, and-false, and-assoc}
+use mathlib.Core.Bool.{Bool, true, false, _&&_, and-true, and-false, and-assoc, true≢false}
 use mathlib.Core.List.{List}
 use borrow.Author.Tests.{eq-eqb, ne-eqb, eqb-true, eqb-false}
 use lib.Bits.{bitOr, bitXor, or-add-and, and-le-l, and-le-r, xor-add-and, xor-self}
@@ -15,7 +15,7 @@ use lib.ListN.{length, getD, drop}
 use Rattle.meaning.specs.Base.{all}
 use Rattle.meaning.specs.Value.{mark}
 use Rattle.meaning.specs.Calls.{isMark}
-use Rattle.theory_base.specs.Members.{true→T, apart}
+use Rattle.theory_base.specs.Members.{true→T}
 use Rattle.theory_base.specs.Cells.{all-turn, all-end}
 use Rattle.theory_answers.specs.FitTest.{mark-is}
 
@@ -40,7 +40,7 @@ mark-bits v s = by (isMark v) refl
     by true e = rw (mark-is v (true→T (isMark v) e)) (eq-eqb (bitXor 9223372036854775808 9223372036854775808) 0 (xor-self 9223372036854775808))
     by false e = ne-eqb (bitXor (ofZ w64 v) 9223372036854775808) 0 (λ z.
         let m : v ≡ mark = sym (toZ-ofZ s) ∙ ap (toZ w64) (xor-same (ofZ w64 v) 9223372036854775808 z) in
-        apart (sym (ap isMark m) ∙ e))
+        true≢false (sym (ap isMark m) ∙ e))
 
 -- i cells are gathered, and one more
 pub gather-turn : {A : Type 0} (f : A → Bool) (xs : List A) (i : ℕ) (d : A) (bits more : ℕ) → i < length xs → eqb more 0 ≡ f (getD xs i d) → all f xs ≡ eqb bits 0 && all f (drop i xs) → all f xs ≡ eqb (bitOr bits more) 0 && all f (drop (i + 1) xs)

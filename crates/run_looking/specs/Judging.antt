@@ -9,7 +9,8 @@ use lib.Dec.{eqb, ltb, leb}
 use lib.IntN.{ℤ}
 use borrow.Author.Tests.{lt-ltb, le-ltb, le-leb, lt-leb, ltb-true, ltb-false, leb-false}
 use Rattle.meaning.specs.Value.{mark}
-use Rattle.theory_program.specs.Parts.{readOperation, predictOperation, nothingOperation, inSet}
+use Rattle.meaning.specs.Program.{readOperation, predictOperation, nothingOperation}
+use Rattle.theory_program.specs.Parts.{inSet}
 
 -- ---- what comes next, judged before its moves
 

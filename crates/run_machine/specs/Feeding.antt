@@ -8,6 +8,7 @@ use lib.ListN.{getD}
 use lib.Dec.{eqb, ltb}
 use lib.IntN.{ℤ}
 use borrow.Author.Tests.{le-ltb, ltb-true, ne-eqb}
+use Rattle.meaning.specs.Sets.{endNumber}
 use Rattle.meaning.specs.Grammar.{Grammar, Token, leafOf, leaves}
 use Rattle.meaning.specs.Rules.{WellFormed}
 use Rattle.meaning.specs.Calls.{tokensFrom}
@@ -18,7 +19,7 @@ use Rattle.run_machine.specs.declared.Ended as Ended
 use Rattle.run_moves.specs.Held.{Held}
 use Rattle.run_machine.specs.Advancing.{Settles, Running}
 use Rattle.run_next_token.specs.Coming.{comesIf, chosen, takeLook, goingOn, takeLooks}
-pub use Rattle.run_next_token.specs.Coming.{four-of, comesTo, comes-is, comes-ahead}
+pub use Rattle.run_next_token.specs.Coming.{comesTo, comes-is, comes-ahead}
 
 -- what is answered, whatever configuration is held at entry
 abbrev pub Answered : List ℕ → (Grammar → Lent → Config → Settled) → List ℤ → List ℕ → Run → List ℤ → List ℕ → Ended.Ended → Type 0
@@ -39,7 +40,7 @@ token-taken g lent t c w = go (ltb (tokensLimit - 1) (c .tokens)) (ltb (t .kind)
     go : (a b : Bool) → ltb (t .kind) (g .terminals) ≡ b → chosen g lent (t .kind) (t .value) c a b ≡ elim a as (λ z. Settled) [ true ↦ failed c 35 | false ↦ elim b as (λ z. Settled) [ true ↦ advanceFrom g lent (comes (leafOf g t)) c | false ↦ failed c 20 ] ]
     go true b e = refl
     go false false e = refl
-    go false true e = ap (λ x. advanceFrom g lent (comesIf x g (t .kind) (t .value)) c) (ne-eqb (t .kind) 63 (λ z. omega (arith, ltb-true (t .kind) (g .terminals) e, w .terminals .1)))
+    go false true e = ap (λ x. advanceFrom g lent (comesIf x g (t .kind) (t .value)) c) (ne-eqb (t .kind) endNumber (λ z. omega (arith, ltb-true (t .kind) (g .terminals) e, w .terminals .1)))
 
 tokens-taken : (g : Grammar) (lent : Lent) (ts : List Token) (c : Config) → WellFormed g → takeLooks (g .terminals) (tokensLimit - 1) g lent ts c ≡ feedAll g lent (leaves g ts) c
 tokens-taken g lent [] c w = refl
@@ -51,8 +52,8 @@ tokens-taken g lent (t ∷ ts) c w = ap (λ o. goingOn o (takeLooks (g .terminal
     go (stopped d) f = f d
 
 -- the end of the segment, whatever value stands beside it
-end-taken : (g : Grammar) (lent : Lent) (most : ℕ) (v : ℤ) (c : Config) → c .tokens ≤ most → takeLooks 64 most g lent (record { kind = 63; value = v } ∷ []) c ≡ finishAll g lent c
-end-taken g lent most v c l = ap (λ o. goingOn o stopped) (ap (λ a. chosen g lent 63 v c a true) (le-ltb most (c .tokens) l)) ∙ go (finishAll g lent c)
+end-taken : (g : Grammar) (lent : Lent) (most : ℕ) (v : ℤ) (c : Config) → c .tokens ≤ most → takeLooks 64 most g lent (record { kind = endNumber; value = v } ∷ []) c ≡ finishAll g lent c
+end-taken g lent most v c l = ap (λ o. goingOn o stopped) (ap (λ a. chosen g lent endNumber v c a true) (le-ltb most (c .tokens) l)) ∙ go (finishAll g lent c)
   where
     go : (o : Settled) → goingOn o stopped ≡ o
     go (failed d k) = refl
@@ -69,7 +70,7 @@ module _ {ws : List ℕ} {m : List ℤ} {ps : List ℕ} {run : Run} (m′ : List
       let same : takeLooks bound (tokensLimit - 1) g lent ts c ≡ feedAll g lent (leaves g ts) c = ap (λ k. takeLooks k (tokensLimit - 1) g lent ts c) (b ∙ segment-words (h .begins) .terminals) ∙ tokens-taken g lent ts c (h .wellFormed) in
       subst (λ o. Settles g ws lent o m′ ps′ e) same (a g lent c h)
 
-  pub end-finished : (most : ℕ) (v : ℤ) → run .tokens ≤ most → TakesAll 64 most ws (63 ∷ []) (v ∷ []) m ps run m′ ps′ e → Finishes ws m ps run m′ ps′ e
+  pub end-finished : (most : ℕ) (v : ℤ) → run .tokens ≤ most → TakesAll 64 most ws (endNumber ∷ []) (v ∷ []) m ps run m′ ps′ e → Finishes ws m ps run m′ ps′ e
   end-finished most v l a g lent c h = subst (λ o. Settles g ws lent o m′ ps′ e) (end-taken g lent most v c (omega (arith, h .tokens))) (a g lent c h)
 
 -- T is at most 63

@@ -8,10 +8,10 @@ ghost use Rattle.run_machine.specs.Flows.{endedBy};
 use limits::TOKENS_BEFORE;
 use run_looking::Limits;
 use run_moves::Run;
-use run_turn::NOTES;
 use run_turn::Onward;
+use run_turn::RETURN_WORDS;
 
-// In the place of a place, where nothing is noted.
+// In the place of a place, where no return address is kept.
 const NO_PLACE: usize = 65536;
 
 // What moves lead to until one needs what comes next: a stop, or the number that refuses the move at hand.
@@ -31,7 +31,7 @@ fn ending(run: Run, k: u32) -> Ended
 }
 
 // The moves for all that comes, in one loop, so that the run stays in the processor's registers: as many tokens are read as the run counts more than before. The end of the segment goes this way too, and comes alone.
-fn take_all(
+fn take_tokens(
     registers: &mut [i64],
     places: &mut [u32],
     program: &[u32],
@@ -53,14 +53,14 @@ fn take_all(
     if first != run_looking::TAKEN {
         return ending(run, first);
     }
-    let mut notes = [NO_PLACE; NOTES];
+    let mut returns = [NO_PLACE; RETURN_WORDS];
     let mut state = run;
     loop {
         match run_turn::turn(
             registers,
             places,
             program,
-            &mut notes,
+            &mut returns,
             state,
             kinds,
             values,
@@ -85,7 +85,7 @@ pub fn feed(
     ensures { λ r. ⌜ Feeds (now (program .entry)) (now (kinds .entry)) (now (values .entry)) (now (registers .entry)) (now (places .entry)) run (now (registers .exit)) (now (places .exit)) r ⌝ }
 {
     let terminals = run_moves::word_at(program, program_parts::TERMINALS);
-    take_all(
+    take_tokens(
         registers,
         places,
         program,
@@ -104,7 +104,7 @@ pub fn finish(registers: &mut [i64], places: &mut [u32], program: &[u32], run: R
 {
     let looks = [63u8; 1];
     let values = [0i32; 1];
-    take_all(
+    take_tokens(
         registers,
         places,
         program,

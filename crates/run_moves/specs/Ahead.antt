@@ -14,12 +14,11 @@ use Rattle.meaning.specs.Rules.{WellFormed}
 use Rattle.meaning.specs.Machine.{Frame, schemeAt, isExpect, expects, pendingTest, placeOf}
 use Rattle.meaning.specs.Part.{frame}
 use Rattle.meaning.specs.Calls.{fromExpect, frameOf, isListed, placeWaits}
-use Rattle.meaning.specs.Program.{instructionWords, schemeWords, segmentWords, symbolHead, expectsAt}
+use Rattle.meaning.specs.Program.{instructionWords, schemeWords, segmentWords, symbolHead, expectsAt, testOperation, nothingOperation}
 use Rattle.theory_base.specs.Members.{both}
 use Rattle.theory_base.specs.WellFormed.{not-whole}
 use Rattle.theory_base.specs.Frames.{scheme-listed}
 use Rattle.theory_program.specs.WordsStand.{WordsStand, stands-left, stands-right, stands-word, stands-within}
-use Rattle.theory_program.specs.Parts.{testOperation, nothingOperation}
 use Rattle.theory_program.specs.Code.{CodeAt, operation}
 use Rattle.theory_program.specs.Addresses.{Begins, schemeAddress, expectAddress, scheme-at, segment-at, expects-scheme}
 use Rattle.theory_program.specs.Proper.{AllProper, production-in, scheme-proper}

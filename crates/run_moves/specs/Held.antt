@@ -14,14 +14,14 @@ use Rattle.meaning.specs.Scheme.{Instruction, add, evaluate, expect, test, remo
 use Rattle.meaning.specs.Rules.{WellFormed}
 use Rattle.meaning.specs.Machine.{Frame, Config, Lent, Coming, Outcome, moved, blocked, next, nextOf, move, placeOf, movesLimit, tokensLimit}
 use Rattle.meaning.specs.Part.{frame, config}
-use Rattle.meaning.specs.Program.{schemeWords}
+use Rattle.meaning.specs.Program.{schemeWords, addOperation, evaluateOperation, readOperation, predictOperation, testOperation, removeOperation, nothingOperation}
 use Rattle.meaning_statements.specs.CallStatements.{Handles}
 use Rattle.theory_answers.specs.Shape.{Due, adds, hands, waits, tests, closes, removes, ends}
 use Rattle.theory_answers.specs.ShapeMoves.{IsAhead, ShapedAt}
 use Rattle.theory_answers.specs.Handling.{handles}
 use Rattle.theory_program.specs.Addresses.{Begins}
 use Rattle.theory_program.specs.WordsStand.{stands-within}
-use Rattle.theory_program.specs.Parts.{headOperation, headOperand, addOperation, evaluateOperation, readOperation, predictOperation, testOperation, removeOperation, nothingOperation}
+use Rattle.theory_program.specs.Parts.{headOperation, headOperand}
 use Rattle.theory_program.specs.Code.{operation, operand, code-head, is-add, is-evaluate, is-terminal, is-nonterminal, is-test, is-remove}
 use Rattle.theory_program.specs.Proper.{ProperInstruction}
 use Rattle.run_moves.specs.declared.Run.{Run}

@@ -10,5 +10,5 @@ pub mod Marked
 pub mod Moves
 -- Moves that pass a symbol: the read of a token, and the remove, after which the place below goes on
 pub mod Passing
--- Notes of where places go on, each a place and an address: what they say, whatever grammar the words are the program of
-pub mod Notes
+-- Return addresses, each beside the place that goes on from it: what they say, whatever grammar the words are the program of
+pub mod Returns

@@ -2,22 +2,21 @@
 use Prim.Native.Nat.{ℕ, suc, _+_, _-_, _*_, _≤_, _<_}
 use native.Mathlib.Omega.{arith}
 use mathlib.Core.Path.{_≡_, refl, sym, ap, _∙_, subst}
-use mathlib.Core.Bool.{Bool, true, false, not, cond}
+use mathlib.Core.Bool.{Bool, true, false, not, cond, true≢false}
 use mathlib.Core.List.{List, [], _∷_, _++_, map}
 use lib.ListN.{length, getD, set, replicate}
 use lib.Dec.{eqb, eqb→eq}
 use lib.IntN.{ℤ}
 use borrow.Author.Tests.{lt-ltb, le-ltb, eq-eqb}
-use Rattle.theory_base.specs.Members.{apart}
 use Rattle.meaning.specs.Base.{In, all}
 use Rattle.meaning.specs.Grammar.{Grammar, Symbol, Rule, Condition, productionAt, whole}
 use Rattle.meaning.specs.Value.{mark, holds}
 use Rattle.meaning.specs.Scheme.{Instruction, add, evaluate, expect, test, remove}
 use Rattle.meaning.specs.Machine.{Config, Lent, Coming, moved, blocked, step, next, readRegister, writeAll, placeOf, pendingTest, expects, movesLimit}
 use Rattle.meaning.specs.Part.{frame, config}
-use Rattle.meaning.specs.Program.{instructionWords, schemeWords}
+use Rattle.meaning.specs.Program.{instructionWords, schemeWords, addOperation, evaluateOperation, testOperation}
 use Rattle.theory_answers.specs.ShapeMoves.{IsAhead, shape-move}
-use Rattle.theory_program.specs.Parts.{headOperation, headOperand, addOperation, evaluateOperation, testOperation}
+use Rattle.theory_program.specs.Parts.{headOperation, headOperand}
 use Rattle.theory_program.specs.Code.{code-head, code-evaluate, code-test, rules-length, conditions-length}
 use Rattle.theory_program.specs.WordsStand.{stands-within}
 use Rattle.run_registers.specs.Stack.{stack, stack-laid}
@@ -71,7 +70,7 @@ module _ {g : Grammar} {ws : List ℕ} {a : ℕ} (p : ℕ) where
     where
       go : (b : Bool) → eqb (headOperation (getD ws a 0)) testOperation ≡ b → LaidIn 0 n (countIf (not b) h ps) h (placeOf g (frame p is) ∷ qs)
       go true e = rw (place-pending g p x is (follows is w u .0 (eqb→eq (headOperation (getD ws a 0)) testOperation (rw e tt)))) l
-      go false e = counted (placeOf g (frame p is)) (place-passed g p x is few (follows is w u .1 (λ z. apart (sym (eq-eqb (headOperation (getD ws a 0)) testOperation z) ∙ e)))) l
+      go false e = counted (placeOf g (frame p is)) (place-passed g p x is few (follows is w u .1 (λ z. true≢false (sym (eq-eqb (headOperation (getD ws a 0)) testOperation z) ∙ e)))) l
 
 -- ---- a move that leaves the top frame one instruction further
 

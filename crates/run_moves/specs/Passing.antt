@@ -3,12 +3,13 @@ use Prim.Native.Nat.{ℕ, suc, _+_, _-_, _*_, _≤_, _<_}
 use native.Mathlib.Omega.{arith}
 use mathlib.Core.Path.{_≡_, refl, sym, ap, _∙_, subst}
 use mathlib.Core.Logic.{_⊎_, inl, inr}
-use mathlib.Core.Bool.{Bool, true, false, not, cond}
+use mathlib.Core.Bool.{Bool, true, false, not, cond, true≢false}
 use mathlib.Core.List.{List, [], _∷_, _++_, map}
 use lib.ListN.{length, getD, set, drop}
 use lib.Dec.{T, eqb, eqb→eq, eqb-refl, ltb, ltb→lt, lt→ltb}
 use lib.IntN.{ℤ, pos}
 use borrow.Author.Tests.{eq-eqb, ne-eqb, lt-ltb, le-ltb}
+use Rattle.meaning.specs.Sets.{endNumber}
 use Rattle.meaning.specs.Grammar.{Grammar, Symbol, Leaf, terminal, nonterminal, productionAt, whole, placeAt, placeProduction, placePassed, carried, leafOf}
 use Rattle.meaning.specs.Value.{mark}
 use Rattle.meaning.specs.Scheme.{Instruction, expect, remove}
@@ -16,7 +17,7 @@ use Rattle.meaning.specs.Rules.{WellFormed}
 use Rattle.meaning.specs.Machine.{Frame, Config, Lent, Look, Coming, token, over, comes, ends, asLook, lookNumber, moved, blocked, step, next, accept, unexpected, parentOnward, placeOf, expects, movesLimit}
 use Rattle.meaning.specs.Part.{frame, config, waitRest, leftRest}
 use Rattle.meaning.specs.Calls.{isMark, frameOf, isListed, placeWaits, lay}
-use Rattle.theory_base.specs.Members.{apart, and, or-left, or-right, or-cases, both}
+use Rattle.theory_base.specs.Members.{and, or-left, or-right, or-cases, both}
 use Rattle.theory_base.specs.Values.{drop-head}
 use Rattle.theory_base.specs.Feeds.{leaf-of}
 use Rattle.theory_base.specs.Frames.{place-waits}
@@ -24,7 +25,8 @@ use Rattle.theory_answers.specs.Shape as Shape
 use Rattle.theory_answers.specs.Shape.{Due, adds, hands, waits, tests, closes, removes, StandsOnFrames, segment, inside}
 use Rattle.theory_answers.specs.ShapeMemory.{listed, short, place-short, place-back}
 use Rattle.theory_answers.specs.ShapeMoves.{IsAhead, shape-move}
-use Rattle.theory_program.specs.Parts.{headOperation, headOperand, readOperation, removeOperation, nothingOperation}
+use Rattle.meaning.specs.Program.{readOperation, removeOperation, nothingOperation}
+use Rattle.theory_program.specs.Parts.{headOperation, headOperand}
 use Rattle.theory_program.specs.Code.{operation}
 use Rattle.theory_program.specs.WordsStand.{stands-within}
 use Rattle.theory_program.specs.Addresses.{Begins, bodyAddress, expectAddress, record-at, body-at, body-length, expect-word}
@@ -46,13 +48,13 @@ lookIf true u = over
 lookIf false u = token u
 
 abbrev pub lookOf : ℕ → Look
-lookOf u = lookIf (eqb u 63) u
+lookOf u = lookIf (eqb u endNumber) u
 
 pub look-number : (u : ℕ) → lookNumber (lookOf u) ≡ u
-look-number u = go (eqb u 63) refl
+look-number u = go (eqb u endNumber) refl
   where
-    go : (b : Bool) → eqb u 63 ≡ b → lookNumber (lookIf b u) ≡ u
-    go true e = sym (eqb→eq u 63 (rw e tt))
+    go : (b : Bool) → eqb u endNumber ≡ b → lookNumber (lookIf b u) ≡ u
+    go true e = sym (eqb→eq u endNumber (rw e tt))
     go false e = refl
 
 -- what comes next, with its value; the mark stands for none
@@ -61,10 +63,10 @@ comingIf true u v = ends
 comingIf false u v = comes (record { kind = u; values = carried (not (isMark v)) v })
 
 abbrev pub comingOf : ℕ → ℤ → Coming
-comingOf u v = comingIf (eqb u 63) u v
+comingOf u v = comingIf (eqb u endNumber) u v
 
 pub coming-look : (u : ℕ) (v : ℤ) → asLook (comingOf u v) ≡ lookOf u
-coming-look u v = go (eqb u 63)
+coming-look u v = go (eqb u endNumber)
   where
     go : (b : Bool) → asLook (comingIf b u v) ≡ lookIf b u
     go true = refl
@@ -116,7 +118,7 @@ module _ {g : Grammar} {ws : List ℕ} {lent : Lent} {m : List ℤ} {ps : List �
 
   -- what comes next is a token, if it is the expected one
   expected-is : (u : ℕ) (v : ℤ) → headOperation (getD ws (run .at) 0) ≡ readOperation → tokenHere ≡ u → comingOf u v ≡ comes (record { kind = u; values = carried (not (isMark v)) v })
-  expected-is u v o e = ap (λ b. comingIf b u v) (ne-eqb u 63 (λ z. omega (arith, hand-proper h (hand-terminal h o), h .wellFormed .terminals .1)))
+  expected-is u v o e = ap (λ b. comingIf b u v) (ne-eqb u endNumber (λ z. omega (arith, hand-proper h (hand-terminal h o), h .wellFormed .terminals .1)))
 
   made-leaf : (u : ℕ) (v : ℤ) → IsAhead g (comingOf u v) → run .moves < movesLimit → headOperation (getD ws (run .at) 0) ≡ readOperation → tokenHere ≡ u → (vs : List ℤ) → carried (not (isMark v)) v ≡ vs → length (c .registers) + length vs ≤ lent .maxRegisters
       → (m′ : List ℤ) (r : ℕ) → LaidIn mark (lent .maxRegisters) m′ r (vs ++ c .registers)
@@ -162,7 +164,7 @@ module _ {g : Grammar} {ws : List ℕ} {lent : Lent} {m : List ℤ} {ps : List �
   pub blocked-read : (u : ℕ) (v : ℤ) → run .moves < movesLimit → headOperation (getD ws (run .at) 0) ≡ readOperation → (tokenHere ≡ u → ⊥) → Made g ws lent (next g lent (comingOf u v) c) m ps m ps (Blocked (unexpected (lookOf u)))
   blocked-read u v limit o z =
       let x = hand-terminal h o in
-      (next-is h (comingOf u v) x limit ∙ go x (eqb u 63), refl, refl)
+      (next-is h (comingOf u v) x limit ∙ go x (eqb u endNumber), refl, refl)
     where
       go : (x : Hand g ws (run .at) c (expect (terminal tokenHere))) (b : Bool) → accept lent c (frame (x .production) (expect (terminal tokenHere) ∷ x .rest)) (x .below) tokenHere (comingIf b u v) ≡ blocked (unexpected (lookIf b u))
       go x true = refl
@@ -263,7 +265,7 @@ pub record Parent (g : Grammar) (fs : List Frame) : Type 0 where
   pub small : placeOf g (frame production (expect symbol ∷ rest)) < 65536
 
 parent : (g : Grammar) → WellFormed g → {p : ℕ} {fs : List Frame} {base : List ℤ} → StandsOnFrames g p fs base → eqb p whole ≡ false → Parent g fs
-parent g w segment z = absurd (apart z)
+parent g w segment z = absurd (true≢false z)
 parent g w (inside {p} q k xs vs ss {fs} l e n s) z =
     let x : Symbol = nonterminal (productionAt g p .left) in
     record {

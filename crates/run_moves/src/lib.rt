@@ -64,7 +64,7 @@ pub fn unexpected(look: usize) -> u32
 }
 
 // The top place has passed one symbol more.
-pub fn count(places: &mut [u32], height: usize)
+pub fn count_symbol(places: &mut [u32], height: usize)
     requires { ⌜ (1 ≤ height) × (height ≤ length (now places)) × (getD (now places) (height - 1) 0 < 65536) ⌝ }
     ensures { λ r. ⌜ now (places .exit) ≡ countIf true height (now (places .entry)) ⌝ }
 {
@@ -73,14 +73,14 @@ pub fn count(places: &mut [u32], height: usize)
 }
 
 // After a read or a remove: the symbol is passed now, unless a test follows.
-pub fn pass(places: &mut [u32], height: usize, program: &[u32], at: usize)
+pub fn pass_symbol(places: &mut [u32], height: usize, program: &[u32], at: usize)
     requires { ⌜ ((1 ≤ height) × (height ≤ length (now places)) × (getD (now places) (height - 1) 0 < 65536)) × (at < length (now program)) ⌝ }
     ensures { λ r. ⌜ now (places .exit) ≡ passed (now (program .entry)) at height (now (places .entry)) ⌝ }
 {
     if program_parts::operation(word_at(program, at)) == operations::TEST {
         return;
     }
-    count(places, height);
+    count_symbol(places, height);
 }
 
 // The address from which a place goes on: that of the expect at which it waits; the whole segment's code begins at 0.

@@ -5,17 +5,15 @@ use mathlib.Core.Path.{_≡_, refl, ap, _∙_, subst}
 use mathlib.Core.Bool.{Bool, true, false, not}
 use mathlib.Core.List.{List, [], _∷_}
 use lib.ListN.{length, getD, drop}
-use lib.Dec.{T, eqb, ltb, le→leb}
-use lib.IntN.{ℤ, pos, negsuc}
-use lib.Signed.{leZ}
-use mir.Syntax.{w32}
-use mir.Val.{SFits}
+use lib.Dec.{T, eqb, ltb}
+use lib.IntN.{ℤ, pos}
+use Rattle.meaning.specs.Sets.{endNumber}
 use Rattle.meaning.specs.Base.{any}
 use Rattle.meaning.specs.Grammar.{Grammar, Token, carried, leafOf}
 use Rattle.meaning.specs.Rules.{fourBytes}
 use Rattle.meaning.specs.Calls.{isMark, tokensFrom}
 use Rattle.meaning.specs.Machine.{Config, Lent, Coming, comes, ends, Settled, stopped, failed, advanceFrom}
-use Rattle.theory_base.specs.Members.{true→T, and}
+use Rattle.theory_base.specs.Members.{true→T}
 use Rattle.theory_base.specs.Feeds.{leaf-of}
 use Rattle.theory_answers.specs.FitTest.{mark-is}
 use Rattle.theory_answers.specs.ShapeMoves.{IsAhead}
@@ -32,12 +30,7 @@ comesIf true g u v = ends
 comesIf false g u v = comes (leafOf g (record { kind = u; value = v }))
 
 abbrev pub comesTo : Grammar → ℕ → ℤ → Coming
-comesTo g u v = comesIf (eqb u 63) g u v
-
--- a signed 32-bit value has four bytes
-pub four-of : (v : ℤ) → SFits w32 v → T (fourBytes v)
-four-of (pos n) f = le→leb n 2147483647 (omega (arith, f .sfits))
-four-of (negsuc n) f = and (leZ (negsuc 2147483647) (negsuc n)) true (le→leb n 2147483647 (omega (arith, f .sfits))) tt
+comesTo g u v = comesIf (eqb u endNumber) g u v
 
 not-mark : (v : ℤ) → T (fourBytes v) → isMark v ≡ false
 not-mark v h = go (isMark v) refl
@@ -60,7 +53,7 @@ module _ {g : Grammar} {ws : List ℕ} (b : Begins g ws) (u : ℕ) (v : ℤ) (sm
 
   -- what the code brings is what comes
   pub comes-is : comingOf u (valueAt ws u v) ≡ comesTo g u v
-  comes-is = go (eqb u 63) (any (eqb u) (g .carrying)) (ap (λ z. valueIf z v) carries-is) ∙ seen-is (eqb u 63)
+  comes-is = go (eqb u endNumber) (any (eqb u) (g .carrying)) (ap (λ z. valueIf z v) carries-is) ∙ seen-is (eqb u endNumber)
     where
       go : (e c : Bool) → valueAt ws u v ≡ valueIf c v → comingIf e u (valueAt ws u v) ≡ seen e c
       go true c q = refl
@@ -68,7 +61,7 @@ module _ {g : Grammar} {ws : List ℕ} (b : Begins g ws) (u : ℕ) (v : ℤ) (sm
       go false false q = ap (λ z. comes (record { kind = u; values = carried (not (isMark z)) z })) q
 
   pub comes-ahead : IsAhead g (comesTo g u v)
-  comes-ahead = go (eqb u 63)
+  comes-ahead = go (eqb u endNumber)
     where
       go : (e : Bool) → IsAhead g (comesIf e g u v)
       go true = tt

@@ -10,7 +10,8 @@ use lib.Dec.{eqb}
 use lib.IntN.{ℤ}
 use Rattle.meaning.specs.Machine.{movesLimit}
 use Rattle.theory_base.specs.Members.{true→T}
-use Rattle.theory_program.specs.Parts.{headOperation, readOperation, testOperation}
+use Rattle.meaning.specs.Program.{readOperation, testOperation}
+use Rattle.theory_program.specs.Parts.{headOperation}
 use Rattle.run_looking.specs.Judging.{judgedOf}
 use Rattle.run_moves.specs.declared.Run.{Run}
 use Rattle.run_moves.specs.declared.Step.the-variants.{Moved}

@@ -13,7 +13,8 @@ use Rattle.meaning.specs.Grammar.{Grammar, terminal, nonterminal, whole}
 use Rattle.meaning.specs.Scheme.{Instruction, add, evaluate, expect, test, remove}
 use Rattle.meaning.specs.Machine.{Frame, Config, Lent, Coming, asLook, blocked, next, nextOf, move, unexpected, needsLook, waits, isFinished, movesLimit}
 use Rattle.meaning.specs.Part.{frame}
-use Rattle.theory_program.specs.Parts.{headOperation, nothingOperation}
+use Rattle.meaning.specs.Program.{nothingOperation}
+use Rattle.theory_program.specs.Parts.{headOperation}
 use Rattle.theory_program.specs.Code.{operation, low-operation}
 use Rattle.run_looking.specs.Judging.{looks}
 use Rattle.run_moves.specs.declared.Run.{Run}

@@ -8,6 +8,8 @@ use lib.ListN.{length, getD, drop}
 use lib.Dec.{T, eqb, eqb→eq}
 use lib.IntN.{ℤ, pos}
 use borrow.Author.Tests.{eq-eqb, ne-eqb}
+use lib.Ieee.Bits.{is-false}
+use Rattle.meaning.specs.Sets.{endNumber}
 use Rattle.meaning.specs.Base.{any}
 use Rattle.meaning.specs.Grammar.{Grammar, carried}
 use Rattle.meaning.specs.Value.{mark}
@@ -15,7 +17,8 @@ use Rattle.meaning.specs.Calls.{isMark, tokensFrom}
 use Rattle.meaning.specs.Machine.{Config, Lent, comes, Settled, next, movesLimit}
 use Rattle.theory_base.specs.Members.{true→T, both}
 use Rattle.theory_answers.specs.ShapeMoves.{IsAhead}
-use Rattle.theory_program.specs.Parts.{headOf, headOperation, headOperand, readOperation}
+use Rattle.meaning.specs.Program.{headOf, readOperation}
+use Rattle.theory_program.specs.Parts.{headOperation, headOperand}
 use Rattle.theory_program.specs.Addresses.{Begins}
 use Rattle.theory_program.specs.Records.{carrier-word}
 use Rattle.run_looking.specs.Judging.{looks, judgedOf, carriesAt, value-none}
@@ -78,14 +81,10 @@ barely ws a u = eqb (getD ws a 0) (headOf readOperation u) && not (carriesAt ws 
 abbrev pub plainly : List ℕ → Run → ℕ → Bool
 plainly ws run u = barely ws (run .at) u && not (eqb (run .moves) movesLimit)
 
-gone : (b : Bool) → T (not b) → b ≡ false
-gone true t = absurd t
-gone false t = refl
-
 pub bare-of : (ws : List ℕ) (a u : ℕ) → T (barely ws a u) → (getD ws a 0 ≡ headOf readOperation u) × (carriesAt ws u ≡ false)
 bare-of ws a u t =
     let s = both (eqb (getD ws a 0) (headOf readOperation u)) (not (carriesAt ws u)) t in
-    (eqb→eq (getD ws a 0) (headOf readOperation u) (s .0), gone (carriesAt ws u) (s .1))
+    (eqb→eq (getD ws a 0) (headOf readOperation u) (s .0), is-false (carriesAt ws u) (s .1))
 
 pub plain-of : (ws : List ℕ) (run : Run) (u : ℕ) → plainly ws run u ≡ true → (getD ws (run .at) 0 ≡ headOf readOperation u) × (carriesAt ws u ≡ false) × (run .moves ≡ movesLimit → ⊥)
 plain-of ws run u e =
@@ -101,7 +100,7 @@ plain-from ws run u e z = ap (λ b. b && not (eqb (run .moves) movesLimit)) e �
 
 -- a token that brings no value is the same whatever stands beside it
 same-plain : {g : Grammar} {ws : List ℕ} → Begins g ws → (u : ℕ) (v : ℤ) → u < 64 → carriesAt ws u ≡ false → comesTo g u (pos 0) ≡ comesTo g u v
-same-plain {g} {ws} b u v small none = go (eqb u 63)
+same-plain {g} {ws} b u v small none = go (eqb u endNumber)
   where
     off : any (eqb u) (g .carrying) ≡ false
     off = sym (carrier-word b u small) ∙ none

@@ -9,6 +9,7 @@ use lib.ListN.{length, getD, drop, drop-of-length-le}
 use lib.Dec.{T, eqb, ltb, leb}
 use lib.IntN.{ℤ, pos}
 use borrow.Author.Tests.{lt-ltb, le-ltb, leb-true, leb-false, eq-eqb, ne-eqb}
+use Rattle.meaning.specs.Sets.{endNumber}
 use Rattle.meaning.specs.Grammar.{Grammar, Leaf}
 use Rattle.meaning.specs.Rules.{fourBytes}
 use Rattle.meaning.specs.Calls.{tokensFrom}
@@ -16,7 +17,8 @@ use Rattle.meaning.specs.Machine.{Config, Lent, Coming, comes, ends, asLook, mo
 use Rattle.theory_base.specs.Steps.{advance-stopped, advance-failed, advance-moved}
 use Rattle.theory_answers.specs.Bounds.{Counts, counts, look-free, no-read, Blocks, atLimit, notExpected, conditionFalse, outOfRange, noRegister, noPlace, blocks}
 use Rattle.theory_answers.specs.ShapeMoves.{IsAhead}
-use Rattle.theory_program.specs.Parts.{headOperation, headOperand, readOperation, predictOperation, nothingOperation}
+use Rattle.meaning.specs.Program.{readOperation, predictOperation, nothingOperation}
+use Rattle.theory_program.specs.Parts.{headOperation, headOperand}
 use Rattle.run_looking.specs.Judging.{looks, judgedBy, judgedOf, taken-of, valueAt}
 use Rattle.run_moves.specs.declared.Run.{Run}
 use Rattle.run_moves.specs.declared.Step.{Step}
@@ -233,7 +235,7 @@ module _ (bound most : ℕ) (ws us : List ℕ) (vs m : List ℤ) (ps : List ℕ)
         waiting = sym (waits-is h) ∙ w
 
         undone : waits (d .frames) && isDone look (d .tokens) d ≡ false
-        undone = to-do g d (getD us i 0) (getD vs i (pos 0)) (eqb (getD us i 0) 63) (sym (finished-is h) ∙ ne-eqb operation nothingOperation z)
+        undone = to-do g d (getD us i 0) (getD vs i (pos 0)) (eqb (getD us i 0) endNumber) (sym (finished-is h) ∙ ne-eqb operation nothingOperation z)
 
         go : (s : Step) → Made g ws lent (next g lent look d) m ps m′ ps′ s → Goes bound most ws us vs i run g lent o m′ ps′ s
         go (Moved run′) (f, e, k) =
@@ -265,25 +267,25 @@ module _ (bound most : ℕ) (ws us : List ℕ) (vs m : List ℤ) (ps : List ℕ)
         let l = comesTo g (getD us i 0) (pos 0) in
         let x = hand-nonterminal h e in
         let n = headOperand (getD ws (run .at) 0) in
-        let see : (v : ℤ) → asLook (comesTo g (getD us i 0) v) ≡ lookOf (getD us i 0) = λ v. seen g (getD us i 0) v (eqb (getD us i 0) 63) in
+        let see : (v : ℤ) → asLook (comesTo g (getD us i 0) v) ≡ lookOf (getD us i 0) = λ v. seen g (getD us i 0) v (eqb (getD us i 0) endNumber) in
         let by : (k : Coming) → next g lent k d ≡ counted d (predict g lent d n (asLook k)) = λ k. ap (nextOf g lent k d) (x .frames) in
         let same : next g lent l d ≡ next g lent (comesTo g (getD us i 0) (getD vs i (pos 0))) d = by l ∙ (ap (λ k. counted d (predict g lent d n k)) (see (pos 0) ∙ sym (see (getD vs i (pos 0)))) ∙ sym (by (comesTo g (getD us i 0) (getD vs i (pos 0))))) in
         subst (λ o. Made g ws lent o m ps m′ ps′ s) same (a l (see (pos 0)) g lent d h (comes-ahead (h .begins) (getD us i 0) (pos 0) small tt)))
 
     -- nothing is left: a token is refused by 21
-    pub turned-more : operation ≡ nothingOperation → (getD us i 0 ≡ 63 → ⊥) → Turned bound most ws us vs i m ps run m ps (Blocked 21)
+    pub turned-more : operation ≡ nothingOperation → (getD us i 0 ≡ endNumber → ⊥) → Turned bound most ws us vs i m ps run m ps (Blocked 21)
     turned-more e z g lent d o h left =
         let look = comesTo g (getD us i 0) (getD vs i (pos 0)) in
-        let token : eqb (getD us i 0) 63 ≡ false = ne-eqb (getD us i 0) 63 z in
+        let token : eqb (getD us i 0) endNumber ≡ false = ne-eqb (getD us i 0) endNumber z in
         let w : waits (d .frames) ≡ true = sym (waits-is h) ∙ ap looks e in
         let n : waits (d .frames) && isDone look (d .tokens) d ≡ false = ap (λ b. waits (d .frames) && isDone (comesIf b g (getD us i 0) (getD vs i (pos 0))) (d .tokens) d) token ∙ (ap (λ b. waits (d .frames) && b) (le-ltb (d .tokens) (d .tokens) (omega arith)) ∙ and-false (waits (d .frames))) in
         let k : next g lent look d ≡ blocked 21 = blocked-over h look e ∙ ap (λ b. blocked (unexpected (asLook (comesIf b g (getD us i 0) (getD vs i (pos 0)))))) token in
         (d, look-blocked bound most us vs even g lent i d o w left (judged-at d (h .tokens)) n 21 k, h)
 
     -- and the end is what it waits for
-    pub turned-over : operation ≡ nothingOperation → getD us i 0 ≡ 63 → length us ≤ suc i → Turned bound most ws us vs i m ps run m ps (Blocked 0)
+    pub turned-over : operation ≡ nothingOperation → getD us i 0 ≡ endNumber → length us ≤ suc i → Turned bound most ws us vs i m ps run m ps (Blocked 0)
     turned-over e z l g lent d o h left =
         let w : waits (d .frames) ≡ true = sym (waits-is h) ∙ ap looks e in
         let v = getD vs i (pos 0) in
-        let n : waits (d .frames) && isDone (comesTo g (getD us i 0) v) (d .tokens) d ≡ true = ap (λ b. waits (d .frames) && isDone (comesIf b g (getD us i 0) v) (d .tokens) d) (eq-eqb (getD us i 0) 63 z) ∙ ap₂ _&&_ w (sym (finished-is h) ∙ eq-eqb operation nothingOperation e) in
+        let n : waits (d .frames) && isDone (comesTo g (getD us i 0) v) (d .tokens) d ≡ true = ap (λ b. waits (d .frames) && isDone (comesIf b g (getD us i 0) v) (d .tokens) d) (eq-eqb (getD us i 0) endNumber z) ∙ ap₂ _&&_ w (sym (finished-is h) ∙ eq-eqb operation nothingOperation e) in
         (d, look-over bound most us vs even g lent i d o w left (judged-at d (h .tokens)) n l, h)

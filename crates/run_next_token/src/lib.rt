@@ -5,7 +5,8 @@ ghost use mathlib.Core.List.{List};
 ghost use lib.IntN.{ℤ};
 ghost use lib.ListN.{getD, length};
 ghost use Rattle.meaning.specs.Machine as Machine;
-ghost use Rattle.theory_program.specs.Parts.{headOperation, readOperation, nothingOperation};
+ghost use Rattle.meaning.specs.Program.{readOperation, nothingOperation};
+ghost use Rattle.theory_program.specs.Parts.{headOperation};
 ghost use Rattle.run_next_token.specs.Operations.{Running};
 ghost use Rattle.run_next_token.specs.Turns.{Fed, Turned, Stays};
 ghost use Rattle.run_moves.specs.Moves.{passed};
@@ -22,7 +23,7 @@ const READ: u32 = operations::READ as u32;
 // ---- tokens that bring no value
 
 // Whether the read of a token that brings no value stands at `at`.
-fn bare(program: &[u32], at: usize, look: usize) -> bool
+fn is_plain_read(program: &[u32], at: usize, look: usize) -> bool
     requires { ⌜ (at < length (now program)) × (8 < length (now program)) × (look < 64) ⌝ }
     ensures { λ r. ⌜ r ≡ barely (now (program .entry)) at look ⌝ }
 {
@@ -34,11 +35,11 @@ fn bare(program: &[u32], at: usize, look: usize) -> bool
 }
 
 // The same of what is at hand, where a move is left for it.
-fn plain(program: &[u32], run: Run, look: usize) -> bool
+fn can_read_plain(program: &[u32], run: Run, look: usize) -> bool
     requires { ⌜ (run .at < length (now program)) × (8 < length (now program)) × (look < 64) ⌝ }
     ensures { λ r. ⌜ r ≡ plainly (now (program .entry)) run look ⌝ }
 {
-    if bare(program, run.at, look) {
+    if is_plain_read(program, run.at, look) {
         return run.moves != MOVES_LIMIT;
     }
     false
@@ -49,14 +50,14 @@ pub fn read_on(places: &mut [u32], program: &[u32], run: Run, look: usize) -> Ru
     requires { ⌜ ((rs : List ℤ) × Running (now program) rs (now places) run) × (look < 64) ⌝ }
     ensures { λ r. ⌜ ReadsOn (now (program .entry)) (now (places .entry)) run look (now (places .exit)) r ⌝ }
 {
-    if plain(program, run, look) {
+    if can_read_plain(program, run, look) {
         return run_read::read_plain(places, program, run);
     }
     run
 }
 
 // The index up to which the tokens are within the limits, and so are the moves that read them: all of the list, or nothing more of it.
-fn within(run: Run, kinds: &[u8], limits: Limits) -> usize
+fn end_within_limits(run: Run, kinds: &[u8], limits: Limits) -> usize
     requires { ⌜ (limits .from ≤ run .tokens) × (run .tokens ≤ Machine.tokensLimit + Machine.movesLimit) × (run .moves ≤ Machine.movesLimit) ⌝ }
     ensures { λ r. ⌜ Within (limits .most) (now (kinds .entry)) (run .tokens - limits .from) run r ⌝ }
 {
@@ -79,7 +80,7 @@ fn behind_reads(program: &[u32], run: Run, kinds: &[u8], limits: Limits) -> usiz
     requires { ⌜ ((ps : List ℕ) × ((rs vs : List ℤ) × Fed (limits .bound) (now program) rs ps run (now kinds) vs)) × (limits .from ≤ run .tokens) ⌝ }
     ensures { λ r. ⌜ Follow (limits .bound) (limits .most) (now (program .entry)) (now (kinds .entry)) (run .tokens - limits .from) run r ⌝ }
 {
-    let till = within(run, kinds, limits);
+    let till = end_within_limits(run, kinds, limits);
     let mut i = (run.tokens - limits.from) as usize;
     let mut at = run.at;
     while i < till {
@@ -87,7 +88,7 @@ fn behind_reads(program: &[u32], run: Run, kinds: &[u8], limits: Limits) -> usiz
         if limits.bound <= look {
             return at;
         }
-        if !bare(program, at, look) {
+        if !is_plain_read(program, at, look) {
             return at;
         }
         i += 1;
@@ -111,7 +112,13 @@ fn pass_each(places: &mut [u32], height: usize, program: &[u32], at: usize, n: u
 }
 
 // The reads at hand, one after the other, of tokens that bring no value.
-fn reads(places: &mut [u32], program: &[u32], run: Run, kinds: &[u8], limits: Limits) -> Run
+fn read_plain_tokens(
+    places: &mut [u32],
+    program: &[u32],
+    run: Run,
+    kinds: &[u8],
+    limits: Limits,
+) -> Run
     requires { ⌜ ((rs vs : List ℤ) × Fed (limits .bound) (now program) rs (now places) run (now kinds) vs) × (limits .from ≤ run .tokens) ⌝ }
     ensures { λ r. ⌜ Reads (limits .bound) (limits .most) (now (program .entry)) (now (kinds .entry)) (run .tokens - limits .from) (now (places .entry)) run (now (places .exit)) r ⌝ }
 {
@@ -155,7 +162,7 @@ pub fn read_next(
     let held = run_looking::carried(program, look, values[i]);
     match run_read::read(registers, places, program, run, look, held) {
         Step::Blocked(n) => Step::Blocked(n),
-        Step::Moved(next) => Step::Moved(reads(places, program, next, kinds, limits)),
+        Step::Moved(next) => Step::Moved(read_plain_tokens(places, program, next, kinds, limits)),
     }
 }
 
@@ -185,7 +192,7 @@ pub fn at_limit(operation: usize, run: Run, kinds: &[u8], limits: Limits) -> Ste
     if operation == operations::NOTHING {
         return nothing_next(run, kinds, limits);
     }
-    if run_looking::looks(operation) {
+    if run_looking::looks_ahead(operation) {
         let k = run_looking::judged(run.tokens, kinds, limits);
         if k != run_looking::TAKEN {
             return Step::Blocked(k);

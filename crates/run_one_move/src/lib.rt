@@ -1,14 +1,15 @@
 // One move, whatever its kind.
 ghost use Prim.Native.Nat.{_≤_, _<_};
 ghost use lib.ListN.{getD};
-ghost use Rattle.theory_program.specs.Parts.{headOperation, removeOperation};
+ghost use Rattle.meaning.specs.Program.{removeOperation};
+ghost use Rattle.theory_program.specs.Parts.{headOperation};
 ghost use Rattle.run_moves.specs.Held.{ReadyForMove, Answers};
 ghost use Rattle.run_moves.specs.Passing.{comingOf};
 use run_moves::Run;
 use run_moves::Step;
 
 // What the instruction at hand does.
-pub fn one(
+pub fn make_move(
     registers: &mut [i64],
     places: &mut [u32],
     program: &[u32],

@@ -9,6 +9,7 @@ use lib.ListN.{length, getD, set, length-map}
 use lib.Dec.{T, eqb, eqb→eq}
 use lib.IntN.{ℤ}
 use borrow.Author.Tests.{lt-ltb, le-ltb, eq-eqb}
+use Rattle.meaning.specs.Limits.{productionsLimit}
 use Rattle.meaning.specs.Base.{In, all, keep, isEmpty, countFrom}
 use Rattle.meaning.specs.Grammar.{Grammar, Condition, nonterminal, productionAt, placeAt}
 use Rattle.meaning.specs.Value.{holds}
@@ -16,10 +17,10 @@ use Rattle.meaning.specs.Scheme.{expect, entryTests}
 use Rattle.meaning.specs.Sets.{has, starts}
 use Rattle.meaning.specs.Machine.{Config, Lent, Coming, asLook, predict, lookNumber, moved, blocked, step, next, push, unexpected, isOf, alternatives, entered, placeOf, schemeAt, movesLimit, readRegister}
 use Rattle.meaning.specs.Part.{frame, config}
-use Rattle.meaning.specs.Program.{firstAlternative, entryOf, directoryWord}
+use Rattle.meaning.specs.Program.{firstAlternative, entryOf, directoryWord, predictOperation}
 use Rattle.theory_base.specs.Members.{T→true, true→T, in-keep, from-in}
 use Rattle.theory_answers.specs.ShapeMoves.{IsAhead, shape-move}
-use Rattle.theory_program.specs.Parts.{predictOperation, headOperation, headOperand, directoryStep, directoryNumber, directoryScheme}
+use Rattle.theory_program.specs.Parts.{headOperation, headOperand, directoryStep, directoryNumber, directoryScheme}
 use Rattle.theory_program.specs.WordsStand.{stands-within}
 use Rattle.theory_program.specs.Addresses.{record-at, directory-at, schemeAddress}
 use Rattle.theory_program.specs.Search.{firstNumber, first-none, first-some, directory-none, directory-listed, entry-number, entry-high, passes, found, found-start, found-stop}
@@ -203,7 +204,7 @@ module _ {g : Grammar} {ws : List ℕ} {lent : Lent} {m : List ℤ} {ps : List �
         listed : q < length (g .productions)
         listed = entering .listed
 
-        pub entering-small : p ≤ 128
+        pub entering-small : p ≤ productionsLimit
         entering-small = omega (arith, entering .number, listed, h .wellFormed .productions .1)
 
         pub entering-inside : recordOf ws p + 8 ≤ length ws

@@ -2,8 +2,10 @@
 ghost use Prim.Native.Nat.{_+_, _*_, _≤_, _<_};
 ghost use mathlib.Core.Path.{_≡_};
 ghost use lib.ListN.{length, getD};
+ghost use Rattle.meaning.specs.Limits.{productionsLimit};
 ghost use Rattle.meaning.specs.Machine.{Coming, asLook, movesLimit};
-ghost use Rattle.theory_program.specs.Parts.{predictOperation, headOperand, directoryNumber};
+ghost use Rattle.meaning.specs.Program.{predictOperation};
+ghost use Rattle.theory_program.specs.Parts.{headOperand, directoryNumber};
 ghost use Rattle.run_moves.specs.Held.{ReadyForMove, Answers};
 ghost use Rattle.run_moves.specs.Passing.{lookOf};
 ghost use Rattle.run_predict.specs.Entering.{tokensOf, enteredBy, placed};
@@ -12,7 +14,7 @@ use run_moves::Step;
 
 // The place of production p - 1 is pushed; its scheme begins at `at`.
 fn enter(places: &mut [u32], run: Run, p: usize, at: usize) -> Step
-    requires { ⌜ (1 ≤ p) × (p ≤ 128) × (run .places ≤ length (now places)) × (run .moves < movesLimit) ⌝ }
+    requires { ⌜ (1 ≤ p) × (p ≤ productionsLimit) × (run .places ≤ length (now places)) × (run .moves < movesLimit) ⌝ }
     ensures { λ r. ⌜ (r ≡ enteredBy run at (length (now (places .entry)))) × (now (places .exit) ≡ placed (run .places) p (now (places .entry))) ⌝ }
 {
     let height = run.places;

@@ -5,7 +5,8 @@ ghost use mathlib.Core.List.{List};
 ghost use lib.IntN.{ℤ};
 ghost use lib.ListN.{getD};
 ghost use Rattle.meaning.specs.Calls.{isMark};
-ghost use Rattle.theory_program.specs.Parts.{headOperand, readOperation};
+ghost use Rattle.meaning.specs.Program.{readOperation};
+ghost use Rattle.theory_program.specs.Parts.{headOperand};
 ghost use Rattle.run_moves.specs.Held.{ReadyForMove, Answers};
 ghost use Rattle.run_moves.specs.Passing.{comingOf};
 ghost use Rattle.run_moves.specs.declared.Step.the-variants.{Moved};
@@ -28,7 +29,7 @@ fn read_value(
         return Step::Blocked(31);
     }
     registers[height] = value;
-    run_moves::pass(places, run.places, program, run.at + 1);
+    run_moves::pass_symbol(places, run.places, program, run.at + 1);
     let mut after = run_moves::counted(run, run.at + 1);
     after.tokens = run.tokens + 1;
     after.registers = height + 1;
@@ -40,7 +41,7 @@ pub fn read_plain(places: &mut [u32], program: &[u32], run: Run) -> Run
     requires { ⌜ ((rs : List ℤ) × ReadyForMove (now program) rs (now places) run readOperation) ⌝ }
     ensures { λ r. ⌜ ((rs : List ℤ) (value : ℤ) → isMark value ≡ true → Answers (now (program .entry)) rs (now (places .entry)) run (comingOf (headOperand (getD (now (program .entry)) (run .at) 0)) value) rs (now (places .exit)) (Moved r)) ⌝ }
 {
-    run_moves::pass(places, run.places, program, run.at + 1);
+    run_moves::pass_symbol(places, run.places, program, run.at + 1);
     let mut after = run_moves::counted(run, run.at + 1);
     after.tokens = run.tokens + 1;
     after

@@ -2,10 +2,10 @@
 ghost use Prim.Native.Nat.{ℕ};
 ghost use mathlib.Core.List.{List};
 ghost use Rattle.meaning.specs.Machine as Machine;
-ghost use Rattle.theory_program.specs.Parts.{testOperation, removeOperation};
+ghost use Rattle.meaning.specs.Program.{testOperation, removeOperation};
 ghost use Rattle.run_moves.specs.Held.{ReadyForMove, Answers};
 ghost use Rattle.run_moves.specs.Passing.{Resumes};
-ghost use Rattle.run_moves.specs.Notes.{Noted, Notes};
+ghost use Rattle.run_moves.specs.Returns.{ReturnsTo, Returns};
 use run_moves::Run;
 use run_moves::Step;
 
@@ -18,7 +18,7 @@ pub fn test(registers: &[i64], places: &mut [u32], program: &[u32], run: Run) ->
 {
     let n = program_parts::operand(run_moves::word_at(program, run.at));
     if run_register_rules::test(registers, run.registers, program, run.at + 1, n) {
-        run_moves::count(places, run.places);
+        run_moves::count_symbol(places, run.places);
         return Step::Moved(run_moves::counted(
             run,
             run.at + 1 + program_parts::CONDITION_WORDS * n,
@@ -29,33 +29,33 @@ pub fn test(registers: &[i64], places: &mut [u32], program: &[u32], run: Run) ->
 
 // ---- remove
 
-// How many notes there are: heights with the same rest share one.
-pub const NOTED: usize = 16;
+// How many return addresses are kept: heights with the same rest share one.
+pub const RETURNS: usize = 16;
 
-// Notes for a height that the place below it goes on from `at`.
-pub fn note(notes: &mut [usize], height: usize, place: usize, at: usize)
-    ensures { λ r. ⌜ ((ws : List ℕ) → Notes ws (now (notes .entry)) → Noted ws place at → Notes ws (now (notes .exit))) ⌝ }
+// Keeps for a height the return address of the place below it, which goes on from `at`.
+pub fn keep_return(returns: &mut [usize], height: usize, place: usize, at: usize)
+    ensures { λ r. ⌜ ((ws : List ℕ) → Returns ws (now (returns .entry)) → ReturnsTo ws place at → Returns ws (now (returns .exit))) ⌝ }
 {
-    let k = height % NOTED;
-    if k < notes.len() / 2 {
-        notes[2 * k] = place;
-        notes[2 * k + 1] = at;
+    let k = height % RETURNS;
+    if k < returns.len() / 2 {
+        returns[2 * k] = place;
+        returns[2 * k + 1] = at;
     }
 }
 
-// The address from which a place goes on: as noted for the height above it, where the note is of this place, or by the program's words, and then it is noted.
-fn onward(program: &[u32], notes: &mut [usize], height: usize, place: usize) -> usize
-    requires { ⌜ Resumes (now program) place × Notes (now program) (now notes) ⌝ }
-    ensures { λ r. ⌜ Noted (now (program .entry)) place r × Notes (now (program .entry)) (now (notes .exit)) ⌝ }
+// The return address of a place, from which it goes on: as kept for the height above it, where that is of this place, or by the program's words, and then it is kept.
+fn onward(program: &[u32], returns: &mut [usize], height: usize, place: usize) -> usize
+    requires { ⌜ Resumes (now program) place × Returns (now program) (now returns) ⌝ }
+    ensures { λ r. ⌜ ReturnsTo (now (program .entry)) place r × Returns (now (program .entry)) (now (returns .exit)) ⌝ }
 {
-    let k = height % NOTED;
-    if k < notes.len() / 2 {
-        if notes[2 * k] == place {
-            return notes[2 * k + 1];
+    let k = height % RETURNS;
+    if k < returns.len() / 2 {
+        if returns[2 * k] == place {
+            return returns[2 * k + 1];
         }
     }
     let at = run_moves::resume(program, place);
-    note(notes, height, place, at);
+    keep_return(returns, height, place, at);
     at
 }
 
@@ -64,19 +64,19 @@ pub fn remove(
     registers: &mut [i64],
     places: &mut [u32],
     program: &[u32],
-    notes: &mut [usize],
+    returns: &mut [usize],
     run: Run,
 ) -> Step
-    requires { ⌜ ReadyForMove (now program) (now registers) (now places) run removeOperation × Notes (now program) (now notes) ⌝ }
-    ensures { λ r. ⌜ ((ahead : Machine.Coming) → Answers (now (program .entry)) (now (registers .entry)) (now (places .entry)) run ahead (now (registers .exit)) (now (places .exit)) r) × Notes (now (program .entry)) (now (notes .exit)) ⌝ }
+    requires { ⌜ ReadyForMove (now program) (now registers) (now places) run removeOperation × Returns (now program) (now returns) ⌝ }
+    ensures { λ r. ⌜ ((ahead : Machine.Coming) → Answers (now (program .entry)) (now (registers .entry)) (now (places .entry)) run ahead (now (registers .exit)) (now (places .exit)) r) × Returns (now (program .entry)) (now (returns .exit)) ⌝ }
 {
     let n = program_parts::operand(run_moves::word_at(program, run.at));
     run_registers::remove(registers, run.registers, n);
     let height = run.places - 1;
     let waiting = run_moves::word_at(places, height - 1);
-    let at = onward(program, notes, height, waiting) + 1;
+    let at = onward(program, returns, height, waiting) + 1;
     places[height] = 0;
-    run_moves::pass(places, height, program, at);
+    run_moves::pass_symbol(places, height, program, at);
     let mut next = run_moves::counted(run, at);
     next.registers = run.registers - n;
     next.places = height;

@@ -5,9 +5,11 @@ use mathlib.Core.Path.{_≡_, sym, ap, _∙_, subst, subst₂}
 use mathlib.Core.List.{List, [], _∷_}
 use lib.ListN.{length, getD}
 use lib.IntN.{ℤ}
+use Rattle.meaning.specs.Sets.{endNumber}
 use Rattle.meaning.specs.Grammar.{Grammar}
 use Rattle.meaning.specs.Machine.{Config, Lent, Settled}
-use Rattle.theory_program.specs.Parts.{headOperation, addOperation, evaluateOperation, readOperation}
+use Rattle.meaning.specs.Program.{addOperation, evaluateOperation, readOperation}
+use Rattle.theory_program.specs.Parts.{headOperation}
 use Rattle.run_looking.specs.Judging.{judgedOf, judged-taken}
 use Rattle.run_moves.specs.declared.Run.{Run}
 use Rattle.run_moves.specs.declared.Step.{Step}
@@ -79,8 +81,8 @@ module _ {idle : Run → Type 0} {bound most : ℕ} {ws us : List ℕ} {vs : Lis
   went-after j r (none e x y p) = (omega (arith, ap (λ z. z .tokens) e), subst (Running ws m′ ps′) (sym e) (subst₂ (λ a b. Running ws a b run) (sym x) (sym y) r))
 
 -- a token that is taken whatever was read
-pub any-taken : (n : ℕ) → 1 ≡ judgedOf 64 n (63 ∷ []) 0 n
-any-taken n = judged-taken 64 n (63 ∷ []) 0 n (omega arith) (omega arith) (omega arith)
+pub any-taken : (n : ℕ) → 1 ≡ judgedOf 64 n (endNumber ∷ []) 0 n
+any-taken n = judged-taken 64 n (endNumber ∷ []) 0 n (omega arith) (omega arith) (omega arith)
 
 module _ {I : Run → Type 0} {bound most : ℕ} {ws us : List ℕ} {vs : List ℤ} {i : ℕ} {m : List ℤ} {ps : List ℕ} {run : Run} {m′ : List ℤ} {ps′ : List ℕ} {run′ : Run} (w : Went I bound most ws us vs i m ps run m′ ps′ run′) {j : ℕ} (e : j ≡ i + (run′ .tokens - run .tokens)) where
   pub went-went : {J : Run → Type 0} {m″ : List ℤ} {ps″ : List ℕ} {run″ : Run} → Went J bound most ws us vs j m′ ps′ run′ m″ ps″ run″ → Went (λ r. I r × J r) bound most ws us vs i m ps run m″ ps″ run″

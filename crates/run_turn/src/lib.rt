@@ -5,8 +5,9 @@ ghost use mathlib.Core.List.{List};
 ghost use lib.IntN.{ℤ};
 ghost use lib.ListN.{getD, length};
 ghost use Rattle.meaning.specs.Machine as Machine;
-ghost use Rattle.theory_program.specs.Parts.{headOperation, addOperation, evaluateOperation, predictOperation};
-ghost use Rattle.run_moves.specs.Notes.{Notes};
+ghost use Rattle.meaning.specs.Program.{addOperation, evaluateOperation, predictOperation};
+ghost use Rattle.theory_program.specs.Parts.{headOperation};
+ghost use Rattle.run_moves.specs.Returns.{Returns};
 ghost use Rattle.run_next_token.specs.Operations.{Running};
 ghost use Rattle.run_next_token.specs.Turns.{Fed, Turned};
 ghost use Rattle.run_turn.specs.Stages.{Passes, Low, Stage, Prepared, TurnsOn};
@@ -15,10 +16,10 @@ use run_looking::Limits;
 use run_moves::Run;
 use run_moves::Step;
 use run_next_token::read_next;
-use run_remove::NOTED;
+use run_remove::RETURNS;
 
-// How many words the notes of where places go on have: a place and an address each.
-pub const NOTES: usize = 2 * NOTED;
+// How many words the return addresses that are kept take: a place and its address each.
+pub const RETURN_WORDS: usize = 2 * RETURNS;
 
 // What a turn leads to: the run after its moves, or the run at which they end and the number that ends them, 0 for a stop.
 pub enum Onward {
@@ -29,7 +30,7 @@ pub enum Onward {
 // ---- moves that look at nothing
 
 // The add, where it is at hand.
-fn adds(registers: &[i64], program: &[u32], run: Run) -> Step
+fn add_if_at_hand(registers: &[i64], program: &[u32], run: Run) -> Step
     requires { ⌜ ((ps : List ℕ) × Running (now program) (now registers) ps run) ⌝ }
     ensures { λ r. ⌜ Stage (now (program .entry)) (now (registers .entry)) run addOperation (now (registers .entry)) r ⌝ }
 {
@@ -43,7 +44,7 @@ fn adds(registers: &[i64], program: &[u32], run: Run) -> Step
 }
 
 // The evaluate, where it is at hand.
-fn evaluates(registers: &mut [i64], program: &[u32], run: Run) -> Step
+fn evaluate_if_at_hand(registers: &mut [i64], program: &[u32], run: Run) -> Step
     requires { ⌜ ((ps : List ℕ) × Running (now program) (now registers) ps run) ⌝ }
     ensures { λ r. ⌜ Stage (now (program .entry)) (now (registers .entry)) run evaluateOperation (now (registers .exit)) r ⌝ }
 {
@@ -57,13 +58,13 @@ fn evaluates(registers: &mut [i64], program: &[u32], run: Run) -> Step
 }
 
 // Both, one after the other.
-fn prepared(registers: &mut [i64], program: &[u32], run: Run) -> Onward
+fn add_and_evaluate(registers: &mut [i64], program: &[u32], run: Run) -> Onward
     requires { ⌜ ((ps : List ℕ) × Running (now program) (now registers) ps run) ⌝ }
     ensures { λ r. ⌜ Prepared (now (program .entry)) (now (registers .entry)) run (now (registers .exit)) r ⌝ }
 {
-    match adds(registers, program, run) {
+    match add_if_at_hand(registers, program, run) {
         Step::Blocked(n) => Onward::Over(run, n),
-        Step::Moved(next) => match evaluates(registers, program, next) {
+        Step::Moved(next) => match evaluate_if_at_hand(registers, program, next) {
             Step::Blocked(n) => Onward::Over(next, n),
             Step::Moved(after) => Onward::Going(after),
         },
@@ -72,19 +73,19 @@ fn prepared(registers: &mut [i64], program: &[u32], run: Run) -> Onward
 
 // ---- moves that look at what comes next
 
-// The predict for the token at hand, which is noted, and its read where that comes next.
+// The predict for the token at hand, whose return address is kept, and its read where that comes next.
 fn predict_next(
     registers: &[i64],
     places: &mut [u32],
     program: &[u32],
-    notes: &mut [usize],
+    returns: &mut [usize],
     run: Run,
     kinds: &[u8],
     limits: Limits,
 ) -> Step
-    requires { ⌜ ((vs : List ℤ) × Fed (limits .bound) (now program) (now registers) (now places) run (now kinds) vs) × (headOperation (getD (now program) (run .at) 0) ≡ predictOperation) × (run .moves < Machine.movesLimit) × (limits .from ≤ run .tokens) × Notes (now program) (now notes) ⌝ }
+    requires { ⌜ ((vs : List ℤ) × Fed (limits .bound) (now program) (now registers) (now places) run (now kinds) vs) × (headOperation (getD (now program) (run .at) 0) ≡ predictOperation) × (run .moves < Machine.movesLimit) × (limits .from ≤ run .tokens) × Returns (now program) (now returns) ⌝ }
     ensures { λ r. ⌜ ((vs : List ℤ) → length (now (kinds .entry)) ≡ length vs → Turned (limits .bound) (limits .most) (now (program .entry)) (now (kinds .entry)) vs (run .tokens - limits .from) (now (registers .entry)) (now (places .entry)) run (now (registers .entry)) (now (places .exit)) r)
-        × Notes (now (program .entry)) (now (notes .exit)) ⌝ }
+        × Returns (now (program .entry)) (now (returns .exit)) ⌝ }
 {
     let k = run_looking::judged(run.tokens, kinds, limits);
     if k != run_looking::TAKEN {
@@ -93,7 +94,7 @@ fn predict_next(
     let i = (run.tokens - limits.from) as usize;
     let look = kinds[i] as usize;
     let waiting = run_moves::word_at(places, run.places - 1);
-    run_remove::note(notes, run.places, waiting, run.at);
+    run_remove::keep_return(returns, run.places, waiting, run.at);
     match run_predict::predict(registers, places, program, run, look) {
         Step::Blocked(n) => Step::Blocked(n),
         Step::Moved(next) => Step::Moved(run_next_token::read_on(places, program, next, look)),
@@ -101,26 +102,26 @@ fn predict_next(
 }
 
 // The move at hand; 0 where it stops for want of what comes next. An add or an evaluate is left for the next turn.
-fn last(
+fn make_other_move(
     registers: &mut [i64],
     places: &mut [u32],
     program: &[u32],
-    notes: &mut [usize],
+    returns: &mut [usize],
     run: Run,
     kinds: &[u8],
     values: &[i32],
     limits: Limits,
 ) -> Step
-    requires { ⌜ Fed (limits .bound) (now program) (now registers) (now places) run (now kinds) (now values) × (limits .from ≤ run .tokens) × Notes (now program) (now notes) ⌝ }
+    requires { ⌜ Fed (limits .bound) (now program) (now registers) (now places) run (now kinds) (now values) × (limits .from ≤ run .tokens) × Returns (now program) (now returns) ⌝ }
     ensures { λ r. ⌜ Passes (Low (now (program .entry))) (limits .bound) (limits .most) (now (program .entry)) (now (kinds .entry)) (now (values .entry)) (run .tokens - limits .from) (now (registers .entry)) (now (places .entry)) run (now (registers .exit)) (now (places .exit)) r
-        × Notes (now (program .entry)) (now (notes .exit)) ⌝ }
+        × Returns (now (program .entry)) (now (returns .exit)) ⌝ }
 {
     let operation = program_parts::operation(run_moves::word_at(program, run.at));
     if run.moves == MOVES_LIMIT {
         return run_next_token::at_limit(operation, run, kinds, limits);
     }
     if operation == operations::PREDICT {
-        return predict_next(registers, places, program, notes, run, kinds, limits);
+        return predict_next(registers, places, program, returns, run, kinds, limits);
     }
     if operation == operations::READ {
         return read_next(registers, places, program, run, kinds, values, limits);
@@ -132,7 +133,7 @@ fn last(
         return run_remove::test(registers, places, program, run);
     }
     if operation == operations::REMOVE {
-        return run_remove::remove(registers, places, program, notes, run);
+        return run_remove::remove(registers, places, program, returns, run);
     }
     run_next_token::nothing_next(run, kinds, limits)
 }
@@ -142,23 +143,23 @@ pub fn turn(
     registers: &mut [i64],
     places: &mut [u32],
     program: &[u32],
-    notes: &mut [usize],
+    returns: &mut [usize],
     run: Run,
     kinds: &[u8],
     values: &[i32],
     limits: Limits,
 ) -> Onward
-    requires { ⌜ Fed (limits .bound) (now program) (now registers) (now places) run (now kinds) (now values) × (limits .from ≤ run .tokens) × Notes (now program) (now notes) ⌝ }
+    requires { ⌜ Fed (limits .bound) (now program) (now registers) (now places) run (now kinds) (now values) × (limits .from ≤ run .tokens) × Returns (now program) (now returns) ⌝ }
     ensures { λ r. ⌜ TurnsOn (limits .bound) (limits .most) (now (program .entry)) (now (kinds .entry)) (now (values .entry)) (run .tokens - limits .from) (now (registers .entry)) (now (places .entry)) run (now (registers .exit)) (now (places .exit)) r
-        × Notes (now (program .entry)) (now (notes .exit)) ⌝ }
+        × Returns (now (program .entry)) (now (returns .exit)) ⌝ }
 {
-    match prepared(registers, program, run) {
+    match add_and_evaluate(registers, program, run) {
         Onward::Over(at, n) => Onward::Over(at, n),
-        Onward::Going(next) => match last(
+        Onward::Going(next) => match make_other_move(
             registers,
             places,
             program,
-            notes,
+            returns,
             next,
             kinds,
             values,

@@ -4,17 +4,17 @@ use native.Mathlib.Nat.{le-refl}
 use native.Mathlib.Omega.{arith}
 use mathlib.Core.Path.{_≡_, refl, sym, _∙_, subst}
 use mathlib.Core.Logic.{_⊎_, ⊎-elim}
-use mathlib.Core.Bool.{Bool, true, false, _||_}
+use mathlib.Core.Bool.{Bool, false, _||_}
 use mathlib.Core.List.{List}
 use native.Mathlib.Decide.{ℕ-discrete}
 use lib.ListN.{getD, length, set, length-set}
 use lib.Seq.{getD-set-same, getD-set-other}
 use lib.Bits.{bitOr}
-use lib.Dec.{T, eqb, eqb→eq, eqb-refl}
-use Rattle.meaning.specs.Sets.{has, singleton}
-use Rattle.theory_sets.specs.TokenSets.{has-union, has-empty, union-left, union-right, union-cases, single-has, single-only}
+use lib.Dec.{T}
+use Rattle.meaning.specs.Limits.{productionsLimit}
+use Rattle.meaning.specs.Sets.{has}
+use Rattle.theory_sets.specs.TokenSets.{has-union, has-empty, union-left, union-right, union-cases}
 use Rattle.token_set.specs.SetBits.{setOf, set-empty, set-or, or-grows}
-use Rattle.theory_base.specs.Members.{same-truth}
 use Rattle.set_words.specs.Views.{members, Inside}
 
 pub or-left : (a b n : ℕ) → T (members a n) → T (members (bitOr a b) n)
@@ -29,16 +29,8 @@ or-members a b n t = union-cases (setOf a) (setOf b) n (rw (set-or a b) at t)
 pub or-is : (a b n : ℕ) → members (bitOr a b) n ≡ (members a n || members b n)
 or-is a b n = rw (set-or a b) (has-union (setOf a) (setOf b) n)
 
-pub or-assoc : (a b c : Bool) → ((a || b) || c) ≡ (a || (b || c))
-or-assoc true b c = refl
-or-assoc false b c = refl
-
 pub none-in : (n : ℕ) → members 0 n ≡ false
 none-in n = rw set-empty (has-empty n)
-
--- the word of one nonterminal or token
-pub single-is : (m n : ℕ) → m < 64 → has (singleton m) n ≡ eqb m n
-single-is m n l = same-truth (has (singleton m) n) (eqb m n) (λ t. rw (single-only m n t) (eqb-refl m)) (λ t. rw (sym (eqb→eq m n t)) (single-has m l))
 
 pub record Grown (C P : (ℕ → Bool) → Type 0) (s r : ℕ) : Type 0 where
   pub grows : s ≤ r
@@ -81,14 +73,14 @@ module _ {C P Q R : (ℕ → Bool) → Type 0} (s r q : ℕ) where
 
 -- ---- a word for each of the first k productions
 pub record SetsTo (f : ℕ → ℕ → Bool) (k : ℕ) (sets : List ℕ) : Type 0 where
-  pub size : length sets ≡ 128
+  pub size : length sets ≡ productionsLimit
   pub is : (p : ℕ) → p < k → (n : ℕ) → members (getD sets p 0) n ≡ f p n
 
 module _ (f : ℕ → ℕ → Bool) where
-  pub sets-none : (sets : List ℕ) → length sets ≡ 128 → SetsTo f 0 sets
+  pub sets-none : (sets : List ℕ) → length sets ≡ productionsLimit → SetsTo f 0 sets
   sets-none sets e = record { size = e; is = λ p l. absurd (omega arith) }
 
-  pub sets-next : (k x : ℕ) (sets : List ℕ) → k < 128 → SetsTo f k sets → ((n : ℕ) → members x n ≡ f k n) → SetsTo f (k + 1) (set sets k x)
+  pub sets-next : (k x : ℕ) (sets : List ℕ) → k < productionsLimit → SetsTo f k sets → ((n : ℕ) → members x n ≡ f k n) → SetsTo f (k + 1) (set sets k x)
   sets-next k x sets l s e = record { size = length-set sets k x ∙ s .size; is = λ p m n. go p m n (ℕ-discrete p k) }
     where
       go : (p : ℕ) → p < k + 1 → (n : ℕ) → Dec (p ≡ k) → members (getD (set sets k x) p 0) n ≡ f p n

@@ -1,27 +1,28 @@
 -- The steps of reaching.
 use Prim.Native.Nat.{ℕ, _-_, _^_, _≤_, _<_, zero-le}
 use mathlib.Core.Path.{_≡_, sym, ap, _∙_}
-use mathlib.Core.Bool.{Bool, true, false, _||_, or-false}
+use mathlib.Core.Bool.{Bool, true, false, _||_, or-false, or-assoc}
 use mathlib.Core.List.{List, [], _∷_}
 use native.Mathlib.Omega.{arith}
 use lib.Bits.{bitOr}
 use lib.Dec.{lit<}
 use Rattle.meaning.specs.Base.{any}
-use Rattle.meaning.specs.Grammar.{Symbol}
+use Rattle.meaning.specs.Grammar.{Symbol, nonterminalBase}
 use Rattle.meaning.specs.Sets.{singleton, endNumber}
 use Rattle.meaning.specs.Table.{symbolOf}
 use Rattle.theory_base.specs.Members.{true→T}
 use Rattle.token_set.specs.SetBits.{setOf, set-end}
-use Rattle.outline.specs.Images.{leftAt, symbol-terminal, symbol-nonterminal}
+use Rattle.outline.specs.Images.{leftAt, symbol-terminal, symbol-nonterminal, symbolBytes}
+use Rattle.theory_sets.specs.TokenSets.{single-is}
 use Rattle.set_words.specs.Views.{members, Within, symbolBit, rightBy, ReachAt}
-use Rattle.set_words.specs.Growth.{Grown, grown-none, grown-or, or-is, or-assoc, none-in, single-is}
+use Rattle.set_words.specs.Growth.{Grown, grown-none, grown-or, or-is, none-in}
 
 -- the word of one symbol
-pub token-bit : (s n : ℕ) → s < 128 → members (2 ^ 63) n ≡ symbolBit n (symbolOf s)
+pub token-bit : (s n : ℕ) → s < nonterminalBase → members (2 ^ endNumber) n ≡ symbolBit n (symbolOf s)
 token-bit s n h = rw set-end (single-is endNumber n (lit< tt)) ∙ sym (ap (symbolBit n) (symbol-terminal s h))
 
-pub nonterminal-bit : (s x n : ℕ) → 128 ≤ s → s < 176 → setOf x ≡ singleton (s - 128) → members x n ≡ symbolBit n (symbolOf s)
-nonterminal-bit s x n h l e = rw e (single-is (s - 128) n (omega arith)) ∙ sym (ap (symbolBit n) (symbol-nonterminal s h))
+pub nonterminal-bit : (s x n : ℕ) → nonterminalBase ≤ s → s < symbolBytes → setOf x ≡ singleton (s - nonterminalBase) → members x n ≡ symbolBit n (symbolOf s)
+nonterminal-bit s x n h l e = rw e (single-is (s - nonterminalBase) n (omega arith)) ∙ sym (ap (symbolBit n) (symbol-nonterminal s h))
 
 -- ---- a right side, symbol by symbol: what is gathered, or still to come
 pub record Gathered (f : ℕ → Symbol → Bool) (xs : List Symbol) (out : ℕ) (rest : List Symbol) : Type 0 where

@@ -9,11 +9,11 @@ use mathlib.Core.List.{List, [], _∷_}
 use lib.Dec.{T, eqb}
 use lib.ListN.{getD, drop}
 use Rattle.meaning.specs.Base.{all, any}
-use Rattle.meaning.specs.Grammar.{Symbol, terminal, nonterminal}
+use Rattle.meaning.specs.Grammar.{Symbol, terminal, nonterminal, nonterminalBase}
 use Rattle.meaning.specs.Table.{symbolOf}
 use Rattle.meaning.specs.Sets.{has, singleton, endNumber}
 use Rattle.token_set.specs.SetBits.{setOf}
-use Rattle.outline.specs.Images.{Image, leftAt, sizeAt, byteAt, rightAt, right-cons, symbol-terminal, symbol-nonterminal}
+use Rattle.outline.specs.Images.{Image, leftAt, sizeAt, byteAt, rightAt, right-cons, symbol-terminal, symbol-nonterminal, symbolBytes}
 use Rattle.theory_base.specs.Members.{and, both, or-cases, or-left, or-right}
 
 -- the view of a word
@@ -62,13 +62,13 @@ pub record Imaged (rows : List ℕ) (p : ℕ) : Type 0 where
 
 -- the symbol at place i of its right side, by the byte s that is read there
 module _ {rows : List ℕ} {p : ℕ} (row : Imaged rows p) (i s : ℕ) (h : i < sizeAt rows p) (e : s ≡ byteAt rows p i) where
-  pub next-small : s < 176
+  pub next-small : s < symbolBytes
   next-small = rw e (row .image .symbols p i (row .listed) h)
 
-  pub next-token : s < 128 → drop i (rightAt rows p) ≡ terminal s ∷ drop (i + 1) (rightAt rows p)
+  pub next-token : s < nonterminalBase → drop i (rightAt rows p) ≡ terminal s ∷ drop (i + 1) (rightAt rows p)
   next-token l = right-cons (row .image) p (row .listed) i h ∙ ap (λ (x : Symbol). x ∷ drop (i + 1) (rightAt rows p)) (ap symbolOf (sym e) ∙ symbol-terminal s l)
 
-  pub next-nonterminal : 128 ≤ s → drop i (rightAt rows p) ≡ nonterminal (s - 128) ∷ drop (i + 1) (rightAt rows p)
+  pub next-nonterminal : nonterminalBase ≤ s → drop i (rightAt rows p) ≡ nonterminal (s - nonterminalBase) ∷ drop (i + 1) (rightAt rows p)
   next-nonterminal l = right-cons (row .image) p (row .listed) i h ∙ ap (λ (x : Symbol). x ∷ drop (i + 1) (rightAt rows p)) (ap symbolOf (sym e) ∙ symbol-nonterminal s l)
 
 -- ---- nonterminals whose symbols are all in: nullable, and with the tokens productive

@@ -4,10 +4,11 @@ ghost use mathlib.Core.Path.{_≡_};
 ghost use Prim.Native.Nat.{ℕ, _<_};
 ghost use Rattle.meaning.specs.Table.{symbolOf};
 ghost use Rattle.set_words.specs.Views.{members, symbolBit};
+ghost use Rattle.outline.specs.Images.{symbolBytes};
 
 // The word of one symbol.
 pub fn symbol_bit(s: u8) -> NonterminalSet
-    requires { ⌜ s < 176 ⌝ }
+    requires { ⌜ s < symbolBytes ⌝ }
     ensures { λ r. ⌜ ((n : ℕ) → members (r .0) n ≡ symbolBit n (symbolOf s)) ⌝ }
 {
     if s < 128 {

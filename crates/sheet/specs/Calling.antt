@@ -17,7 +17,6 @@ use Rattle.meaning.specs.PublicCalls.{usable, areaLength}
 use Rattle.meaning_sheet.specs.SheetCalls.{Sheets, WhenChecked}
 use Rattle.theory_answers.specs.Called.{usable-accepted}
 use Rattle.theory_complete.specs.CompleteUnique.{only}
-use Rattle.run_fit.specs.HasProgram.{Readable}
 use Rattle.prepare.specs.declared.Made as Made
 use Rattle.prepare.specs.declared.Made.the-variants as M
 use Rattle.prepare.specs.Making.{MadeAs, Case, ProgramStands}
@@ -69,9 +68,6 @@ module _ {t area area′ : List ℕ} (m : Made.Made) (k : MadeAs t area area′ 
   stands size e = subst (Case t area area′) e (k .case)
 
 module _ {t area area′ : List ℕ} {size : ℕ} (s : ProgramStands t area area′ size) where
-  pub readable : Readable area′
-  readable = record { grammar = grammarOf (s .state); shown = record { formed = s .formed; begins = s .begins } }
-
   pub under-table : (r p : ℕ) (ks : List ℕ) (vs : List ℤ) (out sheet : List ℕ) (a : Answer.Answer) → Under area′ ks vs r p out sheet a → Sheets t r p ks vs out (sheetIs a sheet)
   under-table r p ks vs out sheet a u =
       let g = grammarOf (s .state) in

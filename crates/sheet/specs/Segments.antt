@@ -28,7 +28,8 @@ use Rattle.meaning_sheet.specs.SheetCalls.{SheetEffect, sheetEffect, sheeted, t
 use Rattle.theory_base.specs.Members.{true→T}
 use Rattle.theory_base.specs.Feeds.{leaves-of}
 use Rattle.theory_answers.specs.ShapeMemory.{result-ranged}
-use Rattle.theory_program.specs.Parts.{headOperation, predictOperation, removeOperation}
+use Rattle.meaning.specs.Program.{predictOperation, removeOperation}
+use Rattle.theory_program.specs.Parts.{headOperation}
 use Rattle.theory_program.specs.Addresses.{Begins}
 use Rattle.theory_program.specs.Code.{operation}
 use Rattle.theory_program.specs.Records.{segment-words}

@@ -2,7 +2,7 @@
 ghost use Prim.Native.Nat.{_+_, _-_, _*_, _≤_, _<_};
 ghost use mathlib.Core.Path.{_≡_};
 ghost use lib.ListN.{length, set, take, drop};
-ghost use Rattle.meaning.specs.Limits.{registersLimit};
+ghost use Rattle.meaning.specs.Limits.{registersLimit, attributesLimit};
 ghost use Rattle.meaning.specs.Layout.{fourBytes};
 ghost use Rattle.meaning_sheet.specs.Sheet as Sheet;
 ghost use Rattle.meaning_sheet.specs.Sheet.{eightBytes, valueBytes};
@@ -59,7 +59,7 @@ pub fn put_values(
     above: usize,
     count: usize,
 )
-    requires { ⌜ (at < 900000000000) × (height ≤ length (now registers)) × (above + count ≤ height) × (height ≤ registersLimit) × (count ≤ 8) ⌝ }
+    requires { ⌜ (at < 900000000000) × (height ≤ length (now registers)) × (above + count ≤ height) × (height ≤ registersLimit) × (count ≤ attributesLimit) ⌝ }
     ensures { λ r. ⌜ now (sheet .exit) ≡ overlay at (valueBytes (take count (drop above (stack height (now (registers .entry)))))) (now (sheet .entry)) ⌝ }
 {
     let mut i = 0;

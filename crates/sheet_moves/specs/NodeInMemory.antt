@@ -8,6 +8,7 @@ use lib.ListN.{length, getD, drop, drop-of-length-le}
 use lib.Dec.{T, eqb}
 use lib.IntN.{ℤ, pos}
 use borrow.Author.Tests.{ne-eqb, eqb-true}
+use Rattle.meaning.specs.Sets.{endNumber}
 use Rattle.meaning.specs.Base.{all, isEmpty}
 use Rattle.meaning.specs.Grammar.{Grammar, Token, Leaf, Symbol, terminal, nonterminal, leafOf, leaves, whole}
 use Rattle.meaning.specs.Rules.{fourBytes}
@@ -20,7 +21,8 @@ use Rattle.theory_base.specs.Members.{both}
 use Rattle.theory_base.specs.Feeds.{leaves-of, leaves-length}
 use Rattle.theory_answers.specs.Bounds.{counts}
 use Rattle.theory_answers.specs.ShapeMoves.{IsAhead}
-use Rattle.theory_program.specs.Parts.{headOperation, addOperation, evaluateOperation, readOperation, predictOperation, testOperation, removeOperation, nothingOperation}
+use Rattle.meaning.specs.Program.{addOperation, evaluateOperation, readOperation, predictOperation, testOperation, removeOperation, nothingOperation}
+use Rattle.theory_program.specs.Parts.{headOperation}
 use Rattle.theory_program.specs.Code.{operation}
 use Rattle.theory_program.specs.Records.{segment-words}
 use Rattle.theory_sheet.specs.Whole.{Failing, fails-behind}
@@ -273,7 +275,7 @@ module _ {ws : List ℕ} {m₀ : List ℤ} {ps₀ : List ℕ} {run₀ : Run} (lo
           let known : u < g .terminals = omega (arith, k, segment-words (h .begins) .terminals) in
           let small : u < 64 = omega (arith, known, h .wellFormed .terminals .1) in
           let z : comingOf u (valueAt ws u v) ≡ comesTo g u v = comes-is (h .begins) u v small (four-at vs (run₀ .tokens) four) in
-          let w : comesTo g u v ≡ comes (leafHere ks vs g (run₀ .tokens)) = rw (ne-eqb u 63 (λ q. omega (arith, q, known, h .wellFormed .terminals .1))) refl in
+          let w : comesTo g u v ≡ comes (leafHere ks vs g (run₀ .tokens)) = rw (ne-eqb u endNumber (λ q. omega (arith, q, known, h .wellFormed .terminals .1))) refl in
           let t = there h even in
           stepped h (tokensAs g ks vs) (comingOf u (valueAt ws u v)) m ps e (leaves-of g ks vs four) s (subst (Fair g c) (sym t) (omega (arith, l, h .tokens), known)) (ap lookAt t ∙ sym (z ∙ w))
           (a g lent c h (subst (IsAhead g) (sym z) (comes-ahead (h .begins) u v small (four-at vs (run₀ .tokens) four))))

@@ -2,7 +2,8 @@
 ghost use Prim.Native.Nat.{_≤_, _<_};
 ghost use mathlib.Core.Path.{_≡_};
 ghost use lib.ListN.{getD};
-ghost use Rattle.theory_program.specs.Parts.{headOperation, removeOperation};
+ghost use Rattle.meaning.specs.Program.{removeOperation};
+ghost use Rattle.theory_program.specs.Parts.{headOperation};
 ghost use Rattle.run_moves.specs.Passing.{comingOf};
 ghost use Rattle.run_one_move.specs.Facing.{Facing};
 ghost use Rattle.sheet_moves.specs.Trying.{Tries};
@@ -30,7 +31,7 @@ pub fn made(
     if run.moves == MOVES_LIMIT {
         return Ended::Failed(run, 35);
     }
-    match run_one_move::one(registers, places, program, run, look, value) {
+    match run_one_move::make_move(registers, places, program, run, look, value) {
         Step::Moved(next) => Ended::Stopped(next),
         Step::Blocked(k) => Ended::Failed(run, k),
     }

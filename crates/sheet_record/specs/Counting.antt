@@ -6,6 +6,7 @@ use mathlib.Core.Logic.{_⊎_, inl, inr}
 use mathlib.Core.List.{List, [], _∷_, map}
 use lib.ListN.{length, getD, drop, length-map}
 use lib.IntN.{ℤ}
+use Rattle.meaning.specs.Limits.{symbolsLimit}
 use Rattle.meaning.specs.Grammar.{Grammar, Leaf, Symbol, terminal, nonterminal, inh, syn, att, markedFor, productionAt, symbolAt, whole, placeProduction, placePassed, segmentPlace}
 use Rattle.meaning.specs.Machine.{Config, Lent, placeOf}
 use Rattle.meaning.specs.Part.{Open, Ancestor, Stands}
@@ -89,7 +90,7 @@ module _ {g : Grammar} {ws : List ℕ} {lent : Lent} {tokens : List Leaf} {m : L
   -- on another node
   module _ (e : place ≡ segmentPlace → ⊥) where
     abbrev address : ℕ
-    address = getD ws 2 0 + 8 * getD ws 6 0 + 12 * placeProduction place + placePassed place
+    address = getD ws 2 0 + 8 * getD ws 6 0 + symbolsLimit * placeProduction place + placePassed place
 
     listed : b .node .production < length (g .productions)
     listed = go parent-is

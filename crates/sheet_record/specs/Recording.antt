@@ -6,6 +6,8 @@ use mathlib.Core.List.{List, _∷_, map}
 use lib.ListN.{getD, take, drop}
 use lib.Dec.{T}
 use lib.IntN.{ℤ}
+use Rattle.meaning.specs.Program.{removeOperation}
+use Rattle.meaning.specs.Limits.{attributesLimit}
 use Rattle.meaning.specs.Base.{all}
 use Rattle.meaning.specs.Grammar.{Grammar, Leaf, inh, att, placeProduction}
 use Rattle.meaning.specs.Machine.{Config, Lent, placeOf}
@@ -59,14 +61,14 @@ module _ {g : Grammar} {ws : List ℕ} {lent : Lent} {tokens : List Leaf} {m : L
       let e : getD ps (run .places - 1) 0 ≡ placeOf g (frame (o .production) (drawRest g o (s .point))) = laid-read (h .places) 1 (omega arith) (bounds h .somePlace) ∙ ap (λ fs. getD (map (placeOf g) fs) 0 0) (sym (s .frames)) in
       omega (arith, e, f .short)
 
-  module _ (five : headOperation (getD ws (run .at) 0) ≡ 5) where
+  module _ (five : headOperation (getD ws (run .at) 0) ≡ removeOperation) where
     pub values-there : (inh g (leftOf g o) ≤ headOperand (getD ws (run .at) 0)) × (headOperand (getD ws (run .at) 0) - inh g (leftOf g o) + att g (leftOf g o) ≤ run .registers)
     values-there =
         let x = hand-remove h five in
         let y = own-stand g (h .wellFormed) (x .production) (x .rest) (x .below) c s (headOperand (getD ws (run .at) 0)) (x .frames) in
         (y .0, omega (arith, y .1, h .registers .height))
 
-    pub few-values : att g (leftOf g o) ≤ 8
+    pub few-values : att g (leftOf g o) ≤ attributesLimit
     few-values = att-most g (h .wellFormed) (leftOf g o)
 
     -- the bytes that the code writes

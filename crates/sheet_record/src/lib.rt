@@ -2,6 +2,7 @@
 ghost use Prim.Native.Nat.{_≤_, _<_};
 ghost use mathlib.Core.Path.{_≡_};
 ghost use lib.ListN.{length, getD};
+ghost use Rattle.meaning.specs.Program.{removeOperation};
 ghost use Rattle.meaning.specs.Limits.{registersLimit};
 ghost use Rattle.theory_program.specs.Parts.{headOperation};
 ghost use Rattle.sheet_record.specs.Counting.{Nested, Counted};
@@ -50,7 +51,7 @@ pub fn write_record(
     at: usize,
     before: u64,
 )
-    requires { ⌜ Inner (now program) (now registers) (now places) run × (headOperation (getD (now program) (run .at) 0) ≡ 5) × (at < 800000000000) × (before ≤ run .tokens) × (length (now registers) ≤ registersLimit) ⌝ }
+    requires { ⌜ Inner (now program) (now registers) (now places) run × (headOperation (getD (now program) (run .at) 0) ≡ removeOperation) × (at < 800000000000) × (before ≤ run .tokens) × (length (now registers) ≤ registersLimit) ⌝ }
     ensures { λ r. ⌜ Records (now (program .entry)) (now (registers .entry)) (now (places .entry)) run at before (now (sheet .entry)) (now (sheet .exit)) ⌝ }
 {
     let sizes = attributes(places, program, run);

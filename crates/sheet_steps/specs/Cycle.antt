@@ -8,7 +8,7 @@ use mathlib.Core.List.{List, [], _∷_, _++_, append-nil}
 use lib.ListN.{length, getD, drop, length-append, length-map, length-take, length-drop}
 use lib.Dec.{T, eqb}
 use lib.IntN.{ℤ}
-use Rattle.meaning.specs.Limits.{registersLimit}
+use Rattle.meaning.specs.Limits.{registersLimit, symbolsLimit}
 use Rattle.meaning.specs.Base.{all}
 use Rattle.meaning.specs.Grammar.{Grammar, Leaf, Symbol, nonterminal, inh, att, productionAt}
 use Rattle.meaning.specs.Rules.{fourBytes}
@@ -21,7 +21,8 @@ use Rattle.meaning_sheet.specs.Sheet.{recordBytes, sheet, sheets}
 use Rattle.theory_base.specs.WellFormed.{well-formed-at}
 use Rattle.theory_base.specs.Feeds.{leaves-of}
 use Rattle.theory_answers.specs.Bounds.{counts}
-use Rattle.theory_program.specs.Parts.{headOperation, headOperand, readOperation, predictOperation, removeOperation}
+use Rattle.meaning.specs.Program.{readOperation, predictOperation, removeOperation, evaluateOperation, addOperation, testOperation}
+use Rattle.theory_program.specs.Parts.{headOperation, headOperand}
 use Rattle.theory_program.specs.Proper.{att-most}
 use Rattle.theory_program.specs.Code.{low-operation}
 use Rattle.theory_sound.specs.MovesKeepPart.{nodeOf, withChild, waitingAt}
@@ -175,21 +176,21 @@ module _ {ws ks : List ℕ} {vs m₀ : List ℤ} {ps₀ : List ℕ} {run₀ : Ru
     list-places = let x = noded in same-places (w₀ .held) (w₀ .stand) (x .held) (x .stand)
 
 -- what is at hand after the moves inside a node is a child, if it is neither a remove nor the end
-pub only-read : (k : ℕ) → isInside k ≡ false → k < 5 → (k ≡ 3 → ⊥) → k ≡ 2
-only-read k e l n = go (eqb k 0) refl (eqb k 1) refl (eqb k 4) refl e
+pub only-read : (k : ℕ) → isInside k ≡ false → k < removeOperation → (k ≡ predictOperation → ⊥) → k ≡ readOperation
+only-read k e l n = go (eqb k addOperation) refl (eqb k evaluateOperation) refl (eqb k testOperation) refl e
   where
-    go : (a : Bool) → eqb k 0 ≡ a → (b : Bool) → eqb k 1 ≡ b → (d : Bool) → eqb k 4 ≡ d → a || (b || d) ≡ false → k ≡ 2
+    go : (a : Bool) → eqb k addOperation ≡ a → (b : Bool) → eqb k evaluateOperation ≡ b → (d : Bool) → eqb k testOperation ≡ d → a || (b || d) ≡ false → k ≡ readOperation
     go true x b y d z h = absurd (subst T h tt)
     go false x true y d z h = absurd (subst T h tt)
     go false x false y true z h = absurd (subst T h tt)
-    go false x false y false z h = omega (arith, l, n, eqb-false k 0 x, eqb-false k 1 y, eqb-false k 4 z)
+    go false x false y false z h = omega (arith, l, n, eqb-false k addOperation x, eqb-false k evaluateOperation y, eqb-false k testOperation z)
 
-pub rests-look : (k : ℕ) → isInside k ≡ false → k < 5 → isLook k
-rests-look k e l = go (eqb k 3) refl
+pub rests-look : (k : ℕ) → isInside k ≡ false → k < removeOperation → isLook k
+rests-look k e l = go (eqb k predictOperation) refl
   where
-    go : (b : Bool) → eqb k 3 ≡ b → isLook k
-    go true z = (omega (arith, eqb-true k 3 z), omega (arith, eqb-true k 3 z))
-    go false z = let two = only-read k e l (eqb-false k 3 z) in (omega (arith, two), omega (arith, two))
+    go : (b : Bool) → eqb k predictOperation ≡ b → isLook k
+    go true z = (omega (arith, eqb-true k predictOperation z), omega (arith, eqb-true k predictOperation z))
+    go false z = let two = only-read k e l (eqb-false k predictOperation z) in (omega (arith, two), omega (arith, two))
 
 -- ---- a token as a child, and a node that is entered: the move that looks at the next token, then those that need none
 
@@ -374,7 +375,7 @@ module _ {ws : List ℕ} (ks : List ℕ) (vs : List ℤ) {m₀ : List ℤ} {ps�
     pub entered-places : (run₁ .places ≡ suc (run₀ .places)) × (run₁ .places ≤ length ps₁)
     entered-places = (omega (arith, w .held .places .height, x₁ .held .places .height, length-map (w .config .frames) (placeOf (w .grammar)), length-map (x₁ .to .frames) (placeOf (w .grammar)), stand-frames (w .stand), stand-frames (x₁ .stand)), bounds (x₁ .held) .places)
 
-    pub node-list-at : length m₁ ≡ length m₀ → ListAt ws ks vs m₁ ps₁ run₁ e₁ 12
+    pub node-list-at : length m₁ ≡ length m₀ → ListAt ws ks vs m₁ ps₁ run₁ e₁ symbolsLimit
     node-list-at e = record {
       walking = record { even = w .even; four = w .four; grammar = w .grammar; lent = w .lent; config = x₁ .to; node = nodeOf (x₁ .production) (x₁ .inherited) []; below = waitingAt (w .node) (x₁ .symbol) (x₁ .ahead) ∷ w .below; held = x₁ .held; stand = x₁ .stand };
       symbols = omega (arith, well-formed-at (w .grammar) (x₁ .held .wellFormed) (x₁ .production) (x₁ .stand .good .stands .0) .short);

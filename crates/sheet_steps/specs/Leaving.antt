@@ -13,7 +13,8 @@ use Rattle.meaning.specs.Tree.{isLeafOf}
 use Rattle.meaning.specs.Part.{Open, Ancestor}
 use Rattle.theory_base.specs.Values.{treeOf}
 use Rattle.theory_answers.specs.Bounds.{counts}
-use Rattle.theory_program.specs.Parts.{headOperation, headOperand, removeOperation}
+use Rattle.meaning.specs.Program.{removeOperation}
+use Rattle.theory_program.specs.Parts.{headOperation, headOperand}
 use Rattle.theory_sound.specs.MovesKeepPart.{withChild}
 use Rattle.theory_sheet.specs.Overlay.{overlay}
 use Rattle.theory_sheet.specs.NodeInProgress.{Stand}

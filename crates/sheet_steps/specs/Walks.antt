@@ -7,7 +7,8 @@ use mathlib.Core.List.{List, _++_}
 use lib.ListN.{length, getD, set, take, drop}
 use lib.Seq.{getD-set-same}
 use lib.IntN.{ℤ}
-use Rattle.meaning.specs.Limits.{registersLimit}
+use Rattle.meaning.specs.Program.{predictOperation, removeOperation, readOperation}
+use Rattle.meaning.specs.Limits.{registersLimit, attributesLimit, symbolsLimit}
 use Rattle.theory_program.specs.Parts.{headOperation}
 use Rattle.theory_program.specs.Proper.{att-most}
 use Rattle.run_moves.specs.Held.{bounds}
@@ -38,7 +39,7 @@ pub record PassOut (ws ks : List ℕ) (vs m₀ : List ℤ) (ps₀ s₀ : List �
 
 pub record EnterAt (ws ks : List ℕ) (vs m : List ℤ) (ps s : List ℕ) : Type 0 where
   pub walking : Walking ws ks vs (low 6 s m) (low 7 s ps) (runIn s)
-  pub three : handIn ws s ≡ 3
+  pub three : handIn ws s ≡ predictOperation
   pub room : getD s 5 0 < 800000000000
   pub fits : Fits m ps s
 
@@ -50,7 +51,7 @@ pub record Opened (ws ks : List ℕ) (vs m₀ : List ℤ) (ps₀ s₀ : List ℕ
 
 pub record LeaveAt (ws : List ℕ) (m : List ℤ) (ps s : List ℕ) (at before : ℕ) : Type 0 where
   pub inner : Inner ws (low 6 s m) (low 7 s ps) (runIn s)
-  pub five : handIn ws s ≡ 5
+  pub five : handIn ws s ≡ removeOperation
   pub room : at < 800000000000
   pub earlier : before ≤ getD s 0 0
   pub few : length (low 6 s m) ≤ registersLimit
@@ -112,16 +113,16 @@ module _ {m₀ : List ℤ} {ps₀ s₀ : List ℕ} (f : Fits m₀ ps₀ s₀) (m
 
 -- ---- a node is entered
 
-module _ {ws ks : List ℕ} {vs m₀ : List ℤ} {ps₀ s₀ : List ℕ} (three : handIn ws s₀ ≡ 3) {m : List ℤ} {ps s : List ℕ} where
+module _ {ws ks : List ℕ} {vs m₀ : List ℤ} {ps₀ s₀ : List ℕ} (three : handIn ws s₀ ≡ predictOperation) {m : List ℤ} {ps s : List ℕ} where
   pub enter-fails : PassOut ws ks vs m₀ ps₀ s₀ m ps false s → Opened ws ks vs m₀ ps₀ s₀ m ps false s
   enter-fails p = record { opens = p .passes .1 three; rests = tt; kept = p .kept; small = p .small }
 
   -- the room of a record is small, and nothing was written yet
-  pub enter-few : Walking ws ks vs (low 6 s₀ m₀) (low 7 s₀ ps₀) (runIn s₀) → PassOut ws ks vs m₀ ps₀ s₀ m ps true s → (r : Counts) → Counted ws (low 7 s ps) (runIn s) r → (r .total ≤ 8) × (getD s 5 0 ≡ getD s₀ 5 0)
+  pub enter-few : Walking ws ks vs (low 6 s₀ m₀) (low 7 s₀ ps₀) (runIn s₀) → PassOut ws ks vs m₀ ps₀ s₀ m ps true s → (r : Counts) → Counted ws (low 7 s ps) (runIn s) r → (r .total ≤ attributesLimit) × (getD s 5 0 ≡ getD s₀ 5 0)
   enter-few w p r k =
       let x = p .passes .1 three in
       let i = enters-inner ks vs (getD s₀ 5 0) (low 6 s m) (low 7 s ps) (runIn s) (getD s 5 0) x w in
-      let most : r .total ≤ 8 = omega (arith, k (i .grammar) (i .lent) (i .tokens) (low 6 s m) (i .config) (i .node) (i .parent) (i .below) (i .held) (i .stand) .1, att-most (i .grammar) (i .held .wellFormed) (leftOf (i .grammar) (i .node))) in
+      let most : r .total ≤ attributesLimit = omega (arith, k (i .grammar) (i .lent) (i .tokens) (low 6 s m) (i .config) (i .node) (i .parent) (i .below) (i .held) (i .stand) .1, att-most (i .grammar) (i .held .wellFormed) (leftOf (i .grammar) (i .node))) in
       (most, x (w .grammar) (w .lent) (w .config) (w .node) (w .below) (w .even) (w .four) (w .held) (w .stand) .1)
 
   pub enter-opens : PassOut ws ks vs m₀ ps₀ s₀ m ps true s → (r : Counts) → Counted ws (low 7 s ps) (runIn s) r → Opened ws ks vs m₀ ps₀ s₀ m ps true (set s 5 (getD s 5 0 + (12 + 8 * r .total)))
@@ -148,7 +149,7 @@ pub kept-same : {m : List ℤ} {ps s : List ℕ} → Fits m ps s → Kept m ps s
 kept-same f = record { eight = f .eight; registers = refl; places = refl; long = refl; longPlaces = refl }
 
 -- a token as a child: nothing is written
-pub pass-out : {ws ks : List ℕ} {vs m₀ : List ℤ} {ps₀ s₀ : List ℕ} (sheet₀ : List ℕ) {m : List ℤ} {ps : List ℕ} {r : Bool} {s : List ℕ} → handIn ws s₀ ≡ 2 → PassOut ws ks vs m₀ ps₀ s₀ m ps r s → NodeOut ws ks vs m₀ ps₀ s₀ sheet₀ m ps sheet₀ r s
+pub pass-out : {ws ks : List ℕ} {vs m₀ : List ℤ} {ps₀ s₀ : List ℕ} (sheet₀ : List ℕ) {m : List ℤ} {ps : List ℕ} {r : Bool} {s : List ℕ} → handIn ws s₀ ≡ readOperation → PassOut ws ks vs m₀ ps₀ s₀ m ps r s → NodeOut ws ks vs m₀ ps₀ s₀ sheet₀ m ps sheet₀ r s
 pass-out sheet₀ two p = record { done = p .passes .0 two sheet₀; rests = p .rests; kept = p .kept; small = p .small }
 
 -- the same cells, sheet, answer and numbers
@@ -167,10 +168,10 @@ module _ {ws ks : List ℕ} {vs m₀ : List ℤ} {ps₀ s₀ : List ℕ} {symbol
       let w = q .ready .walking in
       bounds (n .done (w .grammar) (w .lent) (w .config) (w .node) (w .below) (w .even) (w .four) (w .held) (w .stand) .held) .inside
 
-  pub child-over : 5 ≤ handIn ws s → ListOut ws ks vs m₀ ps₀ s₀ sheet₀ m ps sheet true s
+  pub child-over : removeOperation ≤ handIn ws s → ListOut ws ks vs m₀ ps₀ s₀ sheet₀ m ps sheet true s
   child-over l = record { done = list-more ks vs (getD s₀ 5 0) sheet₀ (low 6 s m) (low 7 s ps) sheet (runIn s) (getD s 5 0) (n .done) (low 6 s m) (low 7 s ps) sheet (walkedIn true s) (none-listed ks vs (low 6 s m) (low 7 s ps) (runIn s) (getD s 5 0) sheet l); kept = n .kept; small = tt }
 
-  pub child-more-in : handIn ws s < 5 → ListIn ws ks vs m ps s (symbols - 1)
+  pub child-more-in : handIn ws s < removeOperation → ListIn ws ks vs m ps s (symbols - 1)
   child-more-in l = record { ready = list-more-at (q .ready) sheet₀ (low 6 s m) (low 7 s ps) sheet (runIn s) (getD s 5 0) (n .done) (q .look) (kept-low (q .fits) (n .kept) .0); look = rests-look (handIn ws s) (n .rests) l; fits = kept-fits (q .fits) (n .kept) }
 
   pub child-depth : depthLeft s ≡ depthLeft s₀
@@ -205,11 +206,11 @@ module _ {ws ks : List ℕ} {vs m₀ : List ℤ} {ps₀ s₀ : List ℕ} (q : No
       let f = fits-low (kept-fits (q .fits) (o .kept)) .1 in
       omega (arith, e .0, e .1, f, o .kept .places)
 
-  pub open-list : handIn ws s₁ < 5 → ListIn ws ks vs m₁ ps₁ s₁ 12
+  pub open-list : handIn ws s₁ < removeOperation → ListIn ws ks vs m₁ ps₁ s₁ symbolsLimit
   open-list l = record { ready = node-list-at ks vs k (low 6 s₁ m₁) (low 7 s₁ ps₁) (runIn s₁) (getD s₁ 5 0) (o .opens) (q .ready) (kept-low (q .fits) (o .kept) .0); look = rests-look (handIn ws s₁) (o .rests) l; fits = kept-fits (q .fits) (o .kept) }
 
   -- no child at all
-  pub open-none : (sheet₀ : List ℕ) → 5 ≤ handIn ws s₁ → ListOut ws ks vs m₁ ps₁ s₁ sheet₀ m₁ ps₁ sheet₀ true s₁
+  pub open-none : (sheet₀ : List ℕ) → removeOperation ≤ handIn ws s₁ → ListOut ws ks vs m₁ ps₁ s₁ sheet₀ m₁ ps₁ sheet₀ true s₁
   open-none sheet₀ l = record { done = none-listed ks vs (low 6 s₁ m₁) (low 7 s₁ ps₁) (runIn s₁) (getD s₁ 5 0) sheet₀ l; kept = kept-same (kept-fits (q .fits) (o .kept)); small = tt }
 
   pub open-fails : {sheet₀ : List ℕ} {m : List ℤ} {ps sheet s : List ℕ} → ListOut ws ks vs m₁ ps₁ s₁ sheet₀ m ps sheet false s → NodeOut ws ks vs m₀ ps₀ s₀ sheet₀ m ps sheet false s

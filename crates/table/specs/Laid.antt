@@ -3,6 +3,7 @@ use Prim.Native.Nat.{ℕ, _≤_, _<_}
 use mathlib.Core.Path.{_≡_}
 use mathlib.Core.List.{List, [], _∷_}
 use lib.ListN.{getD, length}
+use Rattle.meaning.specs.Limits.{symbolsLimit}
 use Rattle.meaning.specs.Grammar.{terminal}
 use Rattle.meaning.specs.Table.{State, Entry, symbolOf}
 use Rattle.outline.specs.Images.{leftAt, sizeAt, byteAt}
@@ -18,7 +19,7 @@ pub record RowOf (rows offsets : List ℕ) (p : ℕ) (e : Entry) : Type 0 where
   pub left : leftAt rows p ≡ e .left
   pub size : sizeAt rows p ≡ length (e .right)
   pub symbols : (k : ℕ) → k < length (e .right) → symbolOf (byteAt rows p k) ≡ getD (e .right) k (terminal 0)
-  pub short : length (e .right) ≤ 12
+  pub short : length (e .right) ≤ symbolsLimit
   pub offset : getD offsets p 0 ≡ e .offset
 
 -- what holds of each element of a list, the latest first, and its number

@@ -4,16 +4,15 @@ use mathlib.Core.Path.{_≡_, refl, sym, _∙_, ap, ap₂}
 use mathlib.Core.Bool.{Bool, true, false, _||_}
 use mathlib.Core.List.{List, [], _∷_, _++_, reverse, reverse-cons}
 use native.Mathlib.Omega.{arith}
-use native.Mathlib.Decide.{ℕ-discrete}
-use borrow.Author.Tests.{eq-eqb, ne-eqb}
 use lib.Bits.{bitOr}
 use lib.Dec.{eqb}
 use lib.ListN.{length}
+use Rattle.meaning.specs.Limits.{terminalsLimit}
 use Rattle.meaning.specs.Base.{any}
 use Rattle.meaning.specs.Grammar.{Counts}
 use Rattle.meaning.specs.Sets.{has, singleton}
 use Rattle.meaning.specs.Table.{byte, Header, readField, kindOf, judgeField}
-use Rattle.theory_sets.specs.TokenSets.{has-union, has-empty, single-has, single-only}
+use Rattle.theory_sets.specs.TokenSets.{has-union, has-empty, single-is}
 use Rattle.token_set.specs.declared.TokenSet.{TokenSet}
 use Rattle.token_set.specs.SetBits.{setOf, set-empty, set-or}
 use Rattle.table_fields.specs.Field.{Whole, Short, rest, bodyAt}
@@ -24,7 +23,7 @@ use Rattle.table_fields.proofs.Fine.{carrier-fine}
 use Rattle.table_fields.proofs.Judged.{carrier-judged}
 use Rattle.table_fields.proofs.Rest.{judged-fine, judged-refused, step-short, step-field, calm-complete, body-length, body-byte, fieldOf}
 use Rattle.outline.specs.Outline.{Carries}
-use Rattle.theory_base.specs.Members.{same-truth}
+use Rattle.theory_base.specs.Members.{eqb-both}
 use Rattle.table_carriers.specs.Named.{CarrierJudged, NoCarrier, CarriersRead}
 
 -- ---- one field
@@ -87,13 +86,6 @@ any-append f (x ∷ xs) y = by (f x) (any-append f xs y)
     by true e = refl
     by false e = e
 
-single-is : (t u : ℕ) → t < 64 → has (singleton t) u ≡ eqb u t
-single-is t u l = go (ℕ-discrete u t)
-  where
-    go : Dec (u ≡ t) → has (singleton t) u ≡ eqb u t
-    go (yes e) = same-truth (has (singleton t) u) (eqb u t) (λ h. rw (eq-eqb u t e) tt) (λ h. rw e (single-has t l))
-    go (no e) = same-truth (has (singleton t) u) (eqb u t) (λ h. absurd (e (single-only t u h))) (λ h. absurd (rw (ne-eqb u t e) at h))
-
 pub carries-none : Carries 0 []
 carries-none = record { each = λ t. ap (λ s. has s t) set-empty ∙ has-empty t }
 
@@ -102,7 +94,7 @@ carries-more word one w ws held e l =
     record {
       each = λ t.
           ap (λ s. has s t) (set-or word one) ∙ has-union (setOf word) (setOf one) t
-          ∙ ap₂ _||_ (held .each t) (ap (λ s. has s t) e ∙ single-is w t l)
+          ∙ ap₂ _||_ (held .each t) (ap (λ s. has s t) e ∙ (single-is w t l ∙ eqb-both w t t w sym sym))
           ∙ sym (any-append (eqb t) (reverse ws) w) ∙ ap (any (eqb t)) (sym (reverse-cons w ws));
     }
 
@@ -134,7 +126,7 @@ module _ (t : List ℕ) (from terminals : ℕ) where
           }
 
       pub carrying-more :
-          number ≡ 0 → terminals ≤ 63 → (one next : ℕ) → setOf one ≡ singleton (byte t (at + 3)) → next ≡ byte t (at + 3) + 1
+          number ≡ 0 → terminals ≤ terminalsLimit → (one next : ℕ) → setOf one ≡ singleton (byte t (at + 3)) → next ≡ byte t (at + 3) + 1
           → Carrying t from terminals (at + 4) next (bitOr (set .0) one)
       carrying-more z few one next e n =
           record {

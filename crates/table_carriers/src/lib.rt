@@ -3,6 +3,7 @@ ghost use mathlib.Core.Path.{_≡_};
 ghost use mathlib.Core.Bool.{true, false};
 ghost use Prim.Native.Nat.{_+_, _<_, _≤_};
 ghost use lib.ListN.{length};
+ghost use Rattle.meaning.specs.Limits.{terminalsLimit};
 ghost use Rattle.meaning.specs.Table.{byte};
 ghost use Rattle.table_carriers.specs.Named.{CarrierJudged, CarriersRead, NoCarrier};
 use token_set::TokenSet;
@@ -41,7 +42,7 @@ pub fn carrier_number(table: &[u8], at: usize, terminals: usize, least: usize) -
 
 // All tag 6 fields from an offset on.
 pub fn read_carriers(table: &[u8], from: usize, terminals: usize) -> Carried
-    requires { ⌜ (from ≤ length (now table)) × (terminals ≤ 63) ⌝ }
+    requires { ⌜ (from ≤ length (now table)) × (terminals ≤ terminalsLimit) ⌝ }
     ensures { λ r. ⌜ CarriersRead (now (table .entry)) from terminals r ⌝ }
 {
     let mut at = from;

@@ -7,6 +7,7 @@ use native.Mathlib.Omega.{arith}
 use native.Mathlib.Nat.{not-suc-le-zero}
 use lib.ListN.{length, getD, set, length-set}
 use lib.Seq.{getD-set-same, getD-set-other}
+use Rattle.meaning.specs.Limits.{attributesLimit, nonterminalsLimit}
 use Rattle.meaning.specs.Grammar.{Counts}
 use Rattle.meaning.specs.Table.{byte, Read}
 use Rattle.table_fields.specs.Field.{rest, judged}
@@ -32,10 +33,10 @@ pub record Counting (t : List ℕ) (n : ℕ) (inh syn : List ℕ) : Type 0 where
   pub read : rest t (headed t) 7 ≡ rest t (counted t inh syn n) (7 + 5 * n)
   pub long : 7 + 5 * n ≤ length t
   pub small : SmallCounts inh syn n
-  pub first : length inh ≡ 48
-  pub second : length syn ≡ 48
+  pub first : length inh ≡ nonterminalsLimit
+  pub second : length syn ≡ nonterminalsLimit
 
-pub counting-start : (t inh syn : List ℕ) → 7 ≤ length t → length inh ≡ 48 → length syn ≡ 48 → Counting t 0 inh syn
+pub counting-start : (t inh syn : List ℕ) → 7 ≤ length t → length inh ≡ nonterminalsLimit → length syn ≡ nonterminalsLimit → Counting t 0 inh syn
 counting-start t inh syn l p q = record { read = refl; long = l; small = λ m h. absurd (not-suc-le-zero h); first = p; second = q }
 
 module _ (t : List ℕ) (n : ℕ) (inh syn : List ℕ) (c : Counting t n inh syn) where
@@ -61,7 +62,7 @@ module _ (t : List ℕ) (n : ℕ) (inh syn : List ℕ) (c : Counting t n inh syn
           inside = c .long;
         }
 
-    module _ (fine : number ≡ 0) (room : n < 48) where
+    module _ (fine : number ≡ 0) (room : n < nonterminalsLimit) where
       abbrev inh′ : List ℕ
       inh′ = set inh n (byte t (at + 3))
 
@@ -88,11 +89,11 @@ module _ (t : List ℕ) (n : ℕ) (inh syn : List ℕ) (c : Counting t n inh syn
       small-more : SmallCounts inh′ syn′ (n + 1)
       small-more m l = ⊎-elim below top (lt-or-le m n)
         where
-          below : m < n → getD inh′ m 0 + getD syn′ m 0 ≤ 8
+          below : m < n → getD inh′ m 0 + getD syn′ m 0 ≤ attributesLimit
           below h =
               omega (arith, c .small m h, getD-set-other inh n m (byte t (at + 3)) 0 (λ e. omega arith), getD-set-other syn n m (byte t (at + 4)) 0 (λ e. omega arith))
 
-          top : n ≤ m → getD inh′ m 0 + getD syn′ m 0 ≤ 8
+          top : n ≤ m → getD inh′ m 0 + getD syn′ m 0 ≤ attributesLimit
           top h =
               let e : m ≡ n = omega arith in
               omega (arith, j .small fine, here, here′, ap (λ (i : ℕ). getD inh′ i 0) e, ap (λ (i : ℕ). getD syn′ i 0) e)

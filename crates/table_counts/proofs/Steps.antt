@@ -6,6 +6,7 @@ use mathlib.Core.List.{List, [], _∷_}
 use native.Mathlib.Omega.{arith}
 use lib.Dec.{eqb}
 use lib.ListN.{length, take, drop}
+use Rattle.meaning.specs.Limits.{attributesLimit, nonterminalsLimit, terminalsLimit}
 use Rattle.meaning.specs.Grammar.{Counts}
 use Rattle.meaning.specs.Table.{byte, Header, State, Stage, atHeader, atCounts, atFirst, atAny, Read, wellFormed, malformed, nothingRead, judgeField, readField, kindOf, header, lastComplete, current}
 use Rattle.table_fields.specs.Field.{Whole, Short, rest, judged, bodyAt}
@@ -70,7 +71,7 @@ module _ (t : List ℕ) where
           (ap (λ (x : ℕ). judgeField nothingRead (fieldOf 0 x b)) tag ∙ header-judged 0 b ∙ sym e)
           (λ z. header-after (header-size (sym e ∙ z)) tag)
 
-      pub header-known : headerFault b ≡ 0 → (7 ≤ length t) × (byte t 4 ≤ 48) × (byte t 3 ≤ 63)
+      pub header-known : headerFault b ≡ 0 → (7 ≤ length t) × (byte t 4 ≤ nonterminalsLimit) × (byte t 3 ≤ terminalsLimit)
       header-known e =
           let k = header-size e in (
             omega (arith, w .inside),
@@ -181,7 +182,7 @@ module _ (t : List ℕ) (at n start result : ℕ) where
       abbrev body : List ℕ
       body = bodyAt t at size
 
-      known : countsFault n start result body ≡ 0 → (at + 5 ≤ length t) × (byte t (at + 3) + byte t (at + 4) ≤ 8)
+      known : countsFault n start result body ≡ 0 → (at + 5 ≤ length t) × (byte t (at + 3) + byte t (at + 4) ≤ attributesLimit)
       known e =
           let q = counts-fine body n start result e in
           let k : size ≡ 2 = sym (body-length t at size (w .inside)) ∙ q .0 in

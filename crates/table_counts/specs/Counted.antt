@@ -3,6 +3,7 @@ use Prim.Native.Nat.{ℕ, zero, suc, _+_, _*_, _≤_, _<_}
 use mathlib.Core.Path.{_≡_}
 use mathlib.Core.List.{List, [], _∷_}
 use lib.ListN.{getD, length}
+use Rattle.meaning.specs.Limits.{attributesLimit, nonterminalsLimit, terminalsLimit}
 use Rattle.meaning.specs.Grammar.{Counts}
 use Rattle.meaning.specs.Table.{byte, Header, State, nothingRead}
 use Rattle.table_fields.specs.Reads.{stateOf}
@@ -31,14 +32,14 @@ abbrev pub counted : List ℕ → List ℕ → List ℕ → ℕ → State
 counted t inherited synthesized n = stateOf (headerIn t) (countsUpTo inherited synthesized n) (offsetsUpTo n) [] [] 0 0
 
 abbrev pub SmallCounts : List ℕ → List ℕ → ℕ → Type 0
-SmallCounts inherited synthesized n = (m : ℕ) → m < n → getD inherited m 0 + getD synthesized m 0 ≤ 8
+SmallCounts inherited synthesized n = (m : ℕ) → m < n → getD inherited m 0 + getD synthesized m 0 ≤ attributesLimit
 
 -- the header judged: its number
 pub record HeaderJudged (t : List ℕ) (number : ℕ) : Type 0 where
   pub read : rest t nothingRead 0 ≡ judged number 0 (rest t (headed t) 7)
   pub long : number ≡ 0 → 7 ≤ length t
-  pub few : number ≡ 0 → byte t 4 ≤ 48
-  pub tokens : number ≡ 0 → byte t 3 ≤ 63
+  pub few : number ≡ 0 → byte t 4 ≤ nonterminalsLimit
+  pub tokens : number ≡ 0 → byte t 3 ≤ terminalsLimit
 
 -- the counts of nonterminal n judged: their number
 pub record CountsJudged (t : List ℕ) (at n start result number : ℕ) : Type 0 where
@@ -47,7 +48,7 @@ pub record CountsJudged (t : List ℕ) (at n start result number : ℕ) : Type 0
       → rest t (stateOf h cs os [] [] 0 0) at
       ≡ judged number at (rest t (stateOf h (record { inherited = byte t (at + 3); synthesized = byte t (at + 4) } ∷ cs) (at ∷ os) [] [] 0 0) (at + 5))
   pub long : number ≡ 0 → at + 5 ≤ length t
-  pub small : number ≡ 0 → byte t (at + 3) + byte t (at + 4) ≤ 8
+  pub small : number ≡ 0 → byte t (at + 3) + byte t (at + 4) ≤ attributesLimit
 
 -- all counts read, or a refusal
 pub record CountsRead (t : List ℕ) (n : ℕ) (inherited synthesized : List ℕ) (r : Refusal) : Type 0 where

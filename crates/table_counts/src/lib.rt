@@ -2,6 +2,7 @@
 ghost use mathlib.Core.Path.{_≡_};
 ghost use Prim.Native.Nat.{_≤_};
 ghost use lib.ListN.{length};
+ghost use Rattle.meaning.specs.Limits.{nonterminalsLimit};
 ghost use Rattle.meaning.specs.Table.{byte};
 ghost use Rattle.table_counts.specs.Counted.{CountsJudged, CountsRead, HeaderJudged};
 use limits::NONTERMINALS;
@@ -59,9 +60,9 @@ pub fn read_counts(
     inherited: &mut [u8; NONTERMINALS],
     synthesized: &mut [u8; NONTERMINALS],
 ) -> Refusal
-    requires { ⌜ (nonterminals ≡ byte (now table) 4) × (start ≡ byte (now table) 5) × (result ≡ byte (now table) 6) × (nonterminals ≤ 48) × (7 ≤ length (now table)) × (length (now inherited) ≡ 48) × (length (now synthesized) ≡ 48) ⌝ }
+    requires { ⌜ (nonterminals ≡ byte (now table) 4) × (start ≡ byte (now table) 5) × (result ≡ byte (now table) 6) × (nonterminals ≤ nonterminalsLimit) × (7 ≤ length (now table)) × (length (now inherited) ≡ nonterminalsLimit) × (length (now synthesized) ≡ nonterminalsLimit) ⌝ }
     ensures read { λ r. ⌜ CountsRead (now (table .entry)) nonterminals (now (inherited .exit)) (now (synthesized .exit)) r ⌝ }
-    ensures kept { λ r. ⌜ (length (now (inherited .exit)) ≡ 48) × (length (now (synthesized .exit)) ≡ 48) ⌝ }
+    ensures kept { λ r. ⌜ (length (now (inherited .exit)) ≡ nonterminalsLimit) × (length (now (synthesized .exit)) ≡ nonterminalsLimit) ⌝ }
 {
     let mut n: usize = 0;
     while n < nonterminals {

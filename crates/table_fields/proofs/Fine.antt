@@ -7,6 +7,7 @@ use lib.Dec.{eqb, leb, ltb}
 use lib.ListN.{length}
 use native.Mathlib.Omega.{arith}
 use borrow.Author.Tests.{eqb-true, leb-true, ltb-true}
+use Rattle.meaning.specs.Limits.{attributesLimit, nonterminalsLimit, productionsLimit, symbolsLimit, terminalsLimit}
 use Rattle.meaning.specs.Table.{byte}
 use Rattle.table_fields.specs.Demand.{holds, equal, atMost, below}
 use Rattle.table_fields.specs.Judge.{headerFault, countsFault, headFault, productionFault, carrierFault, symbolsKnown}
@@ -41,20 +42,20 @@ module _ {n r : ℕ} (h : n ≡ 0 → ⊥) where
   holds-fine b e = by-test b n r e h
 
 module _ (b : List ℕ) where
-  pub header-fine : headerFault b ≡ 0 → (length b ≡ 4) × (byte b 1 ≤ 48) × (byte b 0 ≤ 63)
+  pub header-fine : headerFault b ≡ 0 → (length b ≡ 4) × (byte b 1 ≤ nonterminalsLimit) × (byte b 0 ≤ terminalsLimit)
   unfolding headerFault
   header-fine e =
       let q = equal-fine (nonzero 3) (length b) 4 e in
       let u = atMost-fine (nonzero 3) 1 (byte b 0) (q .1) in
-      let v = atMost-fine (nonzero 3) (byte b 0) 63 (u .1) in
+      let v = atMost-fine (nonzero 3) (byte b 0) terminalsLimit (u .1) in
       let w = atMost-fine (nonzero 3) 1 (byte b 1) (v .1) in
-      (q .0, atMost-fine (nonzero 3) (byte b 1) 48 (w .1) .0, v .0)
+      (q .0, atMost-fine (nonzero 3) (byte b 1) nonterminalsLimit (w .1) .0, v .0)
 
-  pub counts-fine : (n start result : ℕ) → countsFault n start result b ≡ 0 → (length b ≡ 2) × (byte b 0 + byte b 1 ≤ 8)
+  pub counts-fine : (n start result : ℕ) → countsFault n start result b ≡ 0 → (length b ≡ 2) × (byte b 0 + byte b 1 ≤ attributesLimit)
   unfolding countsFault
   counts-fine n start result e =
       let q = equal-fine (nonzero 3) (length b) 2 e in
-      (q .0, atMost-fine (nonzero 3) (byte b 0 + byte b 1) 8 (q .1) .0)
+      (q .0, atMost-fine (nonzero 3) (byte b 0 + byte b 1) attributesLimit (q .1) .0)
 
   pub carrier-fine : (terminals least : ℕ) → carrierFault terminals least b ≡ 0 → (length b ≡ 1) × (byte b 0 < terminals)
   unfolding carrierFault
@@ -63,18 +64,18 @@ module _ (b : List ℕ) where
       (q .0, below-fine (nonzero 4) (byte b 0) terminals (q .1) .0)
 
   pub record HeadFine (nonterminals p : ℕ) : Type 0 where
-    pub short : byte b 1 ≤ 12
+    pub short : byte b 1 ≤ symbolsLimit
     pub long : length b ≡ 2 + byte b 1
-    pub few : p < 128
+    pub few : p < productionsLimit
     pub left : byte b 0 < nonterminals
 
   pub head-fine : (nonterminals p : ℕ) → headFault nonterminals p b ≡ 0 → HeadFine nonterminals p
   unfolding headFault
   head-fine nonterminals p e =
       let q = atMost-fine (nonzero 3) 2 (length b) e in
-      let u = atMost-fine (nonzero 3) (byte b 1) 12 (q .1) in
+      let u = atMost-fine (nonzero 3) (byte b 1) symbolsLimit (q .1) in
       let v = equal-fine (nonzero 3) (length b) (2 + byte b 1) (u .1) in
-      let w = below-fine (nonzero 3) p 128 (v .1) in
+      let w = below-fine (nonzero 3) p productionsLimit (v .1) in
       record { short = u .0; long = v .0; few = w .0; left = below-fine (nonzero 4) (byte b 0) nonterminals (w .1) .0 }
 
   -- without a fault before them the symbols decide
@@ -90,17 +91,17 @@ module _ (b : List ℕ) where
   head-decides terminals nonterminals p n e z =
       first-fails (leb 2 (length b)) 4 _ _ n e
       (λ f.
-      first-fails (leb (byte b 1) 12) 4 _ _ n f
+      first-fails (leb (byte b 1) symbolsLimit) 4 _ _ n f
       (λ g.
       first-fails (eqb (length b) (2 + byte b 1)) 4 _ _ n g
       (λ h.
-      first-fails (ltb p 128) 4 _ _ n h
+      first-fails (ltb p productionsLimit) 4 _ _ n h
       (λ i. first-fails (ltb (byte b 0) nonterminals) 5 _ _ n i (λ j. absurd (z j))))))
 
   pub record ProductionFine (terminals nonterminals p : ℕ) : Type 0 where
-    pub short : byte b 1 ≤ 12
+    pub short : byte b 1 ≤ symbolsLimit
     pub long : length b ≡ 2 + byte b 1
-    pub few : p < 128
+    pub few : p < productionsLimit
     pub left : byte b 0 < nonterminals
     pub symbols : symbolsKnown terminals nonterminals b 2 ≡ true
 
@@ -108,8 +109,8 @@ module _ (b : List ℕ) where
   unfolding productionFault
   production-fine terminals nonterminals p e =
       let q = atMost-fine (nonzero 3) 2 (length b) e in
-      let u = atMost-fine (nonzero 3) (byte b 1) 12 (q .1) in
+      let u = atMost-fine (nonzero 3) (byte b 1) symbolsLimit (q .1) in
       let v = equal-fine (nonzero 3) (length b) (2 + byte b 1) (u .1) in
-      let w = below-fine (nonzero 3) p 128 (v .1) in
+      let w = below-fine (nonzero 3) p productionsLimit (v .1) in
       let x = below-fine (nonzero 4) (byte b 0) nonterminals (w .1) in
       record { short = u .0; long = v .0; few = w .0; left = x .0; symbols = holds-fine (nonzero 4) (symbolsKnown terminals nonterminals b 2) (x .1) .0 }

@@ -7,8 +7,9 @@ use lib.Dec.{eqb, leb, ltb}
 use lib.ListN.{length, drop}
 use native.Mathlib.Omega.{arith}
 use borrow.Author.Tests.{lt-ltb, le-ltb, le-leb, ne-eqb}
+use Rattle.meaning.specs.Limits.{attributesLimit, nonterminalsLimit, productionsLimit, symbolsLimit, terminalsLimit}
 use Rattle.meaning.specs.Base.{all}
-use Rattle.meaning.specs.Grammar.{Counts, terminal, nonterminal}
+use Rattle.meaning.specs.Grammar.{Counts, terminal, nonterminal, nonterminalBase}
 use Rattle.meaning.specs.Table as Table
 use Rattle.meaning.specs.Table.{byte, State, Entry, Header, Kind, header, counts, production, Stage, atCounts, atFirst, atAny, stage, tagStands, kindOf, lowestOf, judgeField, nothingRead, limitsHold, known, startRight, directionsRight, setOnce, leftToRight, boundsRight, symbolOf, rises}
 use Rattle.table_fields.specs.Demand.{holds, equal, atMost, below, ifEqual, ifBelow}
@@ -48,7 +49,7 @@ header-by true true true true true true = refl
 
 pub header-judged : (at : ℕ) (b : List ℕ) → judgeField nothingRead (fieldOf at 1 b) ≡ headerFault b
 unfolding headerFault equal atMost below
-header-judged at b = header-by (eqb (length b) 4) (leb 1 (byte b 0)) (leb (byte b 0) 63) (leb 1 (byte b 1)) (leb (byte b 1) 48) (ltb (byte b 2) (byte b 1))
+header-judged at b = header-by (eqb (length b) 4) (leb 1 (byte b 0)) (leb (byte b 0) terminalsLimit) (leb 1 (byte b 1)) (leb (byte b 1) nonterminalsLimit) (ltb (byte b 2) (byte b 1))
 
 pub header-not : (at tag : ℕ) (b : List ℕ) → (tag ≡ 1 → ⊥) → judgeField nothingRead (fieldOf at tag b) ≡ 3
 header-not at tag b h = judge-not nothingRead at tag b (ne-eqb tag 1 h)
@@ -89,7 +90,7 @@ module _ (h : Header) (cs : List Counts) (os : List ℕ) (at : ℕ) (b : List �
   unfolding countsFault equal atMost ifEqual
   counts-judged l =
       judge-stands (stateOf h cs os [] [] 0 0) at 2 b (ap (λ x. tagStands x 2) (stage-counts h cs os [] [] 0 0 l))
-      ∙ counts-by (eqb (length b) 2) (leb (byte b 0 + byte b 1) 8) (eqb (length cs) (h .start)) (eqb (byte b 0) 0) (leb 1 (h .result)) (leb (h .result) (byte b 1))
+      ∙ counts-by (eqb (length b) 2) (leb (byte b 0 + byte b 1) attributesLimit) (eqb (length cs) (h .start)) (eqb (byte b 0) 0) (leb 1 (h .result)) (leb (h .result) (byte b 1))
 
   pub counts-not :
       (tag : ℕ) → length cs < h .nonterminals → (tag ≡ 2 → ⊥)
@@ -114,13 +115,13 @@ module _ (h : Header) (cs : List Counts) (os ws : List ℕ) (es : List Entry) (r
   abbrev before : State
   before = stateOf h cs os ws es r c
 
-  known-by : (x : Bool) (n : ℕ) → Table.symbolKnown before (elim x [ true ↦ terminal n | false ↦ nonterminal (n - 128) ]) ≡ cond x (ltb n (h .terminals)) (ltb (n - 128) (h .nonterminals))
+  known-by : (x : Bool) (n : ℕ) → Table.symbolKnown before (elim x [ true ↦ terminal n | false ↦ nonterminal (n - nonterminalBase) ]) ≡ cond x (ltb n (h .terminals)) (ltb (n - nonterminalBase) (h .nonterminals))
   known-by true n = refl
   known-by false n = refl
 
   pub symbol-same : (n : ℕ) → Table.symbolKnown before (symbolOf n) ≡ symbolKnown (h .terminals) (h .nonterminals) n
   unfolding symbolKnown ifBelow
-  symbol-same n = known-by (ltb n 128) n
+  symbol-same n = known-by (ltb n nonterminalBase) n
 
   all-same : (ns : List ℕ) → all (λ n. Table.symbolKnown before (symbolOf n)) ns ≡ all (symbolKnown (h .terminals) (h .nonterminals)) ns
   all-same [] = refl
@@ -143,7 +144,7 @@ module _ (h : Header) (cs : List Counts) (os ws : List ℕ) (es : List Entry) (r
       ∙ ap
       (λ y. lowestOf ((limitsHold before production b, 4) ∷ (ltb (byte b 0) (h .nonterminals) && y, 5) ∷ (true, 6) ∷ (true, 7) ∷ (true, 8) ∷ (true, 9) ∷ (true, 10) ∷ []))
       symbols-same
-      ∙ production-by (leb 2 (length b)) (leb (byte b 1) 12) (eqb (length b) (2 + byte b 1)) (ltb (length es) 128) (ltb (byte b 0) (h .nonterminals)) (symbolsKnown (h .terminals) (h .nonterminals) b 2)
+      ∙ production-by (leb 2 (length b)) (leb (byte b 1) symbolsLimit) (eqb (length b) (2 + byte b 1)) (ltb (length es) productionsLimit) (ltb (byte b 0) (h .nonterminals)) (symbolsKnown (h .terminals) (h .nonterminals) b 2)
 
   pub first-not :
       (tag : ℕ) → h .nonterminals ≤ length cs → es ≡ [] → (tag ≡ 3 → ⊥) → (tag ≡ 6 → ⊥)

@@ -4,6 +4,8 @@ use mathlib.Core.Bool.{Bool}
 use mathlib.Core.List.{List, [], _∷_}
 use lib.ListN.{length, drop}
 use lib.Dec.{ltb}
+use Rattle.meaning.specs.Grammar.{nonterminalBase}
+use Rattle.meaning.specs.Limits.{attributesLimit, nonterminalsLimit, productionsLimit, symbolsLimit, terminalsLimit}
 use Rattle.meaning.specs.Base.{all}
 use Rattle.meaning.specs.Table.{byte}
 use Rattle.table_fields.specs.Demand.{holds, equal, atMost, below, between, ifEqual, ifBelow}
@@ -11,8 +13,8 @@ use Rattle.table_fields.specs.Demand.{holds, equal, atMost, below, betwe
 unfoldable pub headerFault : List ℕ → ℕ
 headerFault b =
     equal (length b) 4 4
-    (between 1 63 (byte b 0) 4
-    (between 1 48 (byte b 1) 4
+    (between 1 terminalsLimit (byte b 0) 4
+    (between 1 nonterminalsLimit (byte b 1) 4
     (below (byte b 2) (byte b 1) 5
     0)))
 
@@ -20,7 +22,7 @@ headerFault b =
 unfoldable pub countsFault : ℕ → ℕ → ℕ → List ℕ → ℕ
 countsFault n start result b =
     equal (length b) 2 4
-    (atMost (byte b 0 + byte b 1) 8 4
+    (atMost (byte b 0 + byte b 1) attributesLimit 4
     (ifEqual n start
     (equal (byte b 0) 0 6
     (between 1 (byte b 1) result 6
@@ -29,7 +31,7 @@ countsFault n start result b =
 
 -- a symbol by its byte
 unfoldable pub symbolKnown : ℕ → ℕ → ℕ → Bool
-symbolKnown terminals nonterminals n = ifBelow n 128 (ltb n terminals) (ltb (n - 128) nonterminals)
+symbolKnown terminals nonterminals n = ifBelow n nonterminalBase (ltb n terminals) (ltb (n - nonterminalBase) nonterminals)
 
 -- every number of a list from the k-th on passes a test
 unfoldable pub allFrom : (ℕ → Bool) → List ℕ → ℕ → Bool
@@ -43,9 +45,9 @@ symbolsKnown terminals nonterminals b k = allFrom (symbolKnown terminals nonterm
 unfoldable pub productionFault : ℕ → ℕ → ℕ → List ℕ → ℕ
 productionFault terminals nonterminals p b =
     atMost 2 (length b) 4
-    (atMost (byte b 1) 12 4
+    (atMost (byte b 1) symbolsLimit 4
     (equal (length b) (2 + byte b 1) 4
-    (below p 128 4
+    (below p productionsLimit 4
     (below (byte b 0) nonterminals 5
     (holds (symbolsKnown terminals nonterminals b 2) 5
     0)))))
@@ -54,9 +56,9 @@ productionFault terminals nonterminals p b =
 unfoldable pub headFault : ℕ → ℕ → List ℕ → ℕ
 headFault nonterminals p b =
     atMost 2 (length b) 4
-    (atMost (byte b 1) 12 4
+    (atMost (byte b 1) symbolsLimit 4
     (equal (length b) (2 + byte b 1) 4
-    (below p 128 4
+    (below p productionsLimit 4
     (below (byte b 0) nonterminals 5
     0))))
 

@@ -11,6 +11,7 @@ use lib.Dec.{eqb}
 use lib.ListN.{getD, length, set, length-set}
 use lib.Seq.{getD-set-same, getD-set-other}
 use borrow.Author.Tests.{ne-eqb}
+use Rattle.meaning.specs.Limits.{attributesLimit, positionsLimit}
 use Rattle.meaning.specs.Table.{byte}
 use Rattle.table_fields.proofs.Cases.{lt-or-le}
 use Rattle.table_fields.proofs.Demands.{equal-yes, equal-no, below-yes, below-no}
@@ -24,7 +25,7 @@ use Rattle.table_rule_note.proofs.Gaps.{or-parts}
 
 -- ---- a target settled
 
-module _ (width : ℕ) (inh syn note words : List ℕ) (w : Settled width inh syn note words) (p a : ℕ) (place : p < 13) (near : a < 16) (free : bit (getD words p 0) a ≡ false) where
+module _ (width : ℕ) (inh syn note words : List ℕ) (w : Settled width inh syn note words) (p a : ℕ) (place : p < positionsLimit) (near : a < 16) (free : bit (getD words p 0) a ≡ false) where
   abbrev note′ : List ℕ
   note′ = set note p (bitOr (getD note p 0) (2 ^ (a - 1)))
 
@@ -54,7 +55,7 @@ module _ (width : ℕ) (inh syn note words : List ℕ) (w : Settled width inh sy
       let parts = or-parts (eqb (a - 1) (b - 1)) (bit (getD note p 0) (b - 1)) (sym (note-here b) ∙ e) in
       word-here b ∙ ap₂ _||_ (sym (less-one a b (class-one a own) (class-one b out)) ∙ parts .0) (w .unnoted p b place m out (parts .1))
 
-  only-here : (b : ℕ) → 1 ≤ b → b ≤ 8 → bit (getD note′ p 0) (b - 1) ≡ true → 2 ≡ classAt width inh syn p b
+  only-here : (b : ℕ) → 1 ≤ b → b ≤ attributesLimit → bit (getD note′ p 0) (b - 1) ≡ true → 2 ≡ classAt width inh syn p b
   only-here b l m e = go (ℕ-discrete a b)
     where
       go : Dec (a ≡ b) → 2 ≡ classAt width inh syn p b
@@ -79,7 +80,7 @@ module _ (width : ℕ) (inh syn note words : List ℕ) (w : Settled width inh sy
         kept = length-set words p (bitOr (getD words p 0) (2 ^ a)) ∙ w .kept;
       }
     where
-      unset : (q b : ℕ) → q < 13 → b < 16 → bit (getD words′ q 0) b ≡ false → Dec (q ≡ p) → (2 ≡ classAt width inh syn q b) × (bit (getD note′ q 0) (b - 1) ≡ false)
+      unset : (q b : ℕ) → q < positionsLimit → b < 16 → bit (getD words′ q 0) b ≡ false → Dec (q ≡ p) → (2 ≡ classAt width inh syn q b) × (bit (getD note′ q 0) (b - 1) ≡ false)
       unset q b l m e (yes z) =
           subst
           (λ (x : ℕ). (2 ≡ classAt width inh syn x b) × (bit (getD note′ x 0) (b - 1) ≡ false))
@@ -87,13 +88,13 @@ module _ (width : ℕ) (inh syn note words : List ℕ) (w : Settled width inh sy
           (unset-here b m (ap (λ (x : ℕ). bit (getD words′ x 0) b) (sym z) ∙ e))
       unset q b l m e (no n) = let old = w .unset q b l m (sym (word-there q b n) ∙ e) in (old .0, note-there q (b - 1) n ∙ old .1)
 
-      unnoted : (q b : ℕ) → q < 13 → b < 16 → 2 ≡ classAt width inh syn q b → bit (getD note′ q 0) (b - 1) ≡ false → Dec (q ≡ p) → bit (getD words′ q 0) b ≡ false
+      unnoted : (q b : ℕ) → q < positionsLimit → b < 16 → 2 ≡ classAt width inh syn q b → bit (getD note′ q 0) (b - 1) ≡ false → Dec (q ≡ p) → bit (getD words′ q 0) b ≡ false
       unnoted q b l m out e (yes z) =
           ap (λ (x : ℕ). bit (getD words′ x 0) b) z
           ∙ unnoted-here b m (out ∙ ap (λ (x : ℕ). classAt width inh syn x b) z) (ap (λ (x : ℕ). bit (getD note′ x 0) (b - 1)) (sym z) ∙ e)
       unnoted q b l m out e (no n) = word-there q b n ∙ w .unnoted q b l m out (sym (note-there q (b - 1) n) ∙ e)
 
-      only : (q b : ℕ) → q < 13 → 1 ≤ b → b ≤ 8 → bit (getD note′ q 0) (b - 1) ≡ true → Dec (q ≡ p) → 2 ≡ classAt width inh syn q b
+      only : (q b : ℕ) → q < positionsLimit → 1 ≤ b → b ≤ attributesLimit → bit (getD note′ q 0) (b - 1) ≡ true → Dec (q ≡ p) → 2 ≡ classAt width inh syn q b
       only q b l f g e (yes z) = only-here b f g (ap (λ (x : ℕ). bit (getD note′ x 0) (b - 1)) (sym z) ∙ e) ∙ ap (λ (x : ℕ). classAt width inh syn x b) (sym z)
       only q b l f g e (no n) = w .only q b l f g (sym (note-there q (b - 1) n) ∙ e)
 
@@ -115,7 +116,7 @@ module _ (width : ℕ) (inh syn note b : List ℕ) (p a : ℕ) (is-place : p ≡
       go (no m) = sound-right limit width inh syn note b n target unnoted fit (λ q. m (is-place ∙ q)) (lim m ∙ is-place)
 
   pub settle-more :
-      (words : List ℕ) → Settled width inh syn note words → p < 13 → a < 16 → bit (getD words p 0) a ≡ false
+      (words : List ℕ) → Settled width inh syn note words → p < positionsLimit → a < 16 → bit (getD words p 0) a ≡ false
       → Settled width inh syn (notedBy note b) (set words p (bitOr (getD words p 0) (1 * 2 ^ a % 2 ^ 16)))
   settle-more words w l m e =
       subst

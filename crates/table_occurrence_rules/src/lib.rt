@@ -4,6 +4,7 @@ ghost use mathlib.Core.Bool.{true, false};
 ghost use mathlib.Core.List.{List};
 ghost use Prim.Native.Nat.{ℕ, _+_, _*_, _<_, _≤_};
 ghost use lib.ListN.{length};
+ghost use Rattle.meaning.specs.Limits.{positionsLimit};
 ghost use Rattle.meaning.specs.Table.{byte};
 ghost use Rattle.table_rules.specs.Rule.{bit, classIn, operandCount, OperandsFit};
 ghost use Rattle.table_occurrences.specs.OccurrenceBits.{Inputs, RuleSettled};
@@ -18,7 +19,7 @@ pub fn bit_of(word: u16, attribute: usize) -> bool
 
 // True only of an input, in two bytes of a body, at a position below a limit.
 pub fn is_input(inputs: &[u16; POSITIONS], limit: usize, body: &[u8], at: usize) -> bool
-    requires { ⌜ (limit ≤ 13) × (at + 2 ≤ length (now body)) ⌝ }
+    requires { ⌜ (limit ≤ positionsLimit) × (at + 2 ≤ length (now body)) ⌝ }
     ensures { λ r. ⌜ ((width : ℕ) (inh syn : List ℕ) → Inputs width inh syn (now (inputs .entry)) → r ≡ true → (1 ≡ classIn width inh syn (now (body .entry)) at) × (byte (now (body .entry)) at < limit)) ⌝ }
 {
     let position = table_fields::wide(body[at]);
@@ -34,7 +35,7 @@ pub fn is_input(inputs: &[u16; POSITIONS], limit: usize, body: &[u8], at: usize)
 
 // True only where all operands of a rule by function f are inputs at positions below a limit.
 fn are_inputs(inputs: &[u16; POSITIONS], limit: usize, body: &[u8], f: usize) -> bool
-    requires { ⌜ (1 ≤ limit) × (limit ≤ 13) × (f ≤ 8) × (3 + 2 * operandCount f ≤ length (now body)) ⌝ }
+    requires { ⌜ (1 ≤ limit) × (limit ≤ positionsLimit) × (f ≤ 8) × (3 + 2 * operandCount f ≤ length (now body)) ⌝ }
     ensures { λ r. ⌜ ((width : ℕ) (inh syn : List ℕ) → Inputs width inh syn (now (inputs .entry)) → r ≡ true → OperandsFit limit width inh syn (now (body .entry)) (operandCount f)) ⌝ }
 {
     if f == 0 {
@@ -54,11 +55,11 @@ fn are_inputs(inputs: &[u16; POSITIONS], limit: usize, body: &[u8], f: usize) ->
 
 // Operands stand below the position of their target, unless that is the left side.
 fn limit_of(position: usize) -> usize
-    requires { ⌜ position < 13 ⌝ }
-    ensures { λ r. ⌜ (1 ≤ r) × (r ≤ 13) × ((position ≡ 0 → ⊥) → r ≡ position) ⌝ }
+    requires { ⌜ position < positionsLimit ⌝ }
+    ensures { λ r. ⌜ (1 ≤ r) × (r ≤ positionsLimit) × ((position ≡ 0 → ⊥) → r ≡ position) ⌝ }
 {
     if position == 0 {
-        return 13;
+        return POSITIONS;
     }
     position
 }
@@ -76,7 +77,7 @@ pub fn settle(
 {
     let position = table_fields::wide(body[0]);
     let attribute = table_fields::wide(body[1]);
-    if 13 <= position {
+    if POSITIONS <= position {
         return false;
     }
     if 16 <= attribute {

@@ -7,6 +7,7 @@ use native.Mathlib.Omega.{arith}
 use lib.Bits.{bitOr}
 use lib.Dec.{T}
 use lib.ListN.{length, set, drop, length-set}
+use Rattle.meaning.specs.Limits.{productionsLimit}
 use Rattle.meaning.specs.Table.{byte, symbolOf}
 use Rattle.table_fields.specs.Judge.{symbolKnown, symbolsKnown}
 use Rattle.table_fields.proofs.Walks.{all-pass, all-fail, all-none}
@@ -16,11 +17,10 @@ use Rattle.set_words.specs.Views.{members, symbolBit}
 use Rattle.set_words.specs.Growth.{or-right}
 use Rattle.set_words.specs.Reaching.{Gathered, gathered-start, gathered-next, gathered-end}
 use Rattle.table_rows.specs.RowWritten.{symbolByte, Copied}
-use Rattle.table_rows.proofs.Placing.{copying-at, symbols-from, symbols-none, gathered-again}
+use Rattle.table_rows.proofs.Placing.{copying-at, symbols-from, symbols-none, gathered-again, symbol-byte}
 use Rattle.table_occurrences.specs.OccurrenceBits.{inputWord, otherWord, Filled}
 use Rattle.table_occurrences.proofs.Laws.{Filling, filling-more, filled}
 use Rattle.table_occurrence_words.specs.Placed.{inputAt, otherAt, FoundAs, RightPlaced}
-use Rattle.table_occurrence_words.proofs.Placing.{symbol-byte}
 
 -- words for a left side alone are words below position 1
 pub filling-first : (f : ℕ → ℕ) (none : ℕ) (words : List ℕ) → Filled f 0 none words → Filling f none 1 words
@@ -55,7 +55,7 @@ module _ (rows₀ : List ℕ) (p : ℕ) (b : List ℕ) (terminals nonterminals c
         has = λ m. absurd (omega arith);
       }
 
-  module _ (few : p < 128) (short : length b ≤ 14) (rows inputs settled : List ℕ) (word symbol bit input other k : ℕ) (a : Along rows inputs settled word symbol bit input other k) (more : k < length b) where
+  module _ (few : p < productionsLimit) (short : length b ≤ 14) (rows inputs settled : List ℕ) (word symbol bit input other k : ℕ) (a : Along rows inputs settled word symbol bit input other k) (more : k < length b) where
     byte-here : byte b k ≡ symbolByte b (k - 1)
     byte-here = ap (byte b) {x = k} {y = k - 1 + 1} (omega (arith, a .least)) ∙ symbol-byte b (k - 1) (omega (arith, a .least))
 

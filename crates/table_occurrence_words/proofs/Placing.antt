@@ -1,13 +1,12 @@
 -- The words of a token and of a nonterminal at a position, from the counts that are looked up.
-use Prim.Native.Nat.{ℕ, zero, suc, _+_, _-_, _≤_, _<_}
+use Prim.Native.Nat.{ℕ, _+_, _-_, _≤_, _<_}
 use mathlib.Core.Path.{_≡_, refl, sym, _∙_, ap, ap₂}
 use mathlib.Core.Bool.{true, false}
 use mathlib.Core.List.{List}
 use native.Mathlib.Omega.{arith}
-use Rattle.meaning.specs.Table.{byte}
+use Rattle.meaning.specs.Grammar.{nonterminalBase}
 use Rattle.meaning.specs.Sets.{has}
 use Rattle.token_set.specs.SetBits.{setOf}
-use Rattle.table_rows.specs.RowWritten.{symbolByte}
 use Rattle.outline.specs.Counts.{countAt, synthesizedAt, count-terminal, synthesized-terminal}
 use Rattle.table_occurrences.specs.OccurrenceBits.{rangeWord, inputWord, otherWord}
 use Rattle.table_occurrences.proofs.Laws.{input-first, input-later, other-first, other-later}
@@ -22,7 +21,7 @@ none-word : 0 ≡ rangeWord 0 0
 unfolding rangeWord
 none-word = refl
 
-module _ (k : ℕ) (inherited synthesized : List ℕ) (carrying symbol : ℕ) (token : symbol < 128) where
+module _ (k : ℕ) (inherited synthesized : List ℕ) (carrying symbol : ℕ) (token : symbol < nonterminalBase) where
   pub token-none : countAt inherited symbol ≡ 0
   token-none = sym (count-terminal inherited symbol token)
 
@@ -35,16 +34,12 @@ module _ (k : ℕ) (inherited synthesized : List ℕ) (carrying symbol : ℕ) (t
   pub token-no : 1 ≤ k → has (setOf carrying) symbol ≡ false → 0 ≡ inputWord k (countAt inherited symbol) (synthesizedAt carrying synthesized symbol)
   token-no l e = none-word ∙ input-later k 0 0 (λ q. omega arith) ∙ token-input 0 (sym (synthesized-terminal carrying synthesized symbol token refl e))
 
-pub symbol-byte : (b : List ℕ) (k : ℕ) → 1 ≤ k → byte b (k + 1) ≡ symbolByte b k
-symbol-byte b zero h = absurd (omega arith)
-symbol-byte b (suc k) h = ap (byte b) {x = suc k + 1} {y = k + 2} (omega arith)
-
 empty-range : 65535 ≡ 65535 - rangeWord 0 0
 unfolding rangeWord
 empty-range = refl
 
 -- a token settles nothing
-pub token-other : (k : ℕ) (inherited : List ℕ) (symbol s : ℕ) → symbol < 128 → 1 ≤ k → 65535 ≡ otherWord k (countAt inherited symbol) s
+pub token-other : (k : ℕ) (inherited : List ℕ) (symbol s : ℕ) → symbol < nonterminalBase → 1 ≤ k → 65535 ≡ otherWord k (countAt inherited symbol) s
 token-other k inherited symbol s token l =
     empty-range ∙ ap (λ (x : ℕ). 65535 - rangeWord 0 x) {x = 0} (sym (token-none k inherited inherited 0 symbol token))
     ∙ other-later k (countAt inherited symbol) s (λ q. omega arith)

@@ -4,6 +4,8 @@ use mathlib.Core.Path.{_≡_}
 use mathlib.Core.Bool.{Bool, true}
 use mathlib.Core.List.{List}
 use lib.ListN.{length}
+use Rattle.outline.specs.Images.{rowsLength, symbolBytes}
+use Rattle.meaning.specs.Limits.{attributesLimit}
 use Rattle.meaning.specs.Table.{symbolOf}
 use Rattle.table_fields.specs.Judge.{symbolKnown, symbolsKnown}
 use Rattle.outline.specs.Counts.{countAt, synthesizedAt}
@@ -20,7 +22,7 @@ otherAt carrying inherited synthesized b k = otherWord k (countAt inherited (sym
 
 -- known symbols are tokens, or nonterminals that a table can have, with at most 8 attributes
 abbrev pub KnownSmall : ℕ → ℕ → ℕ → List ℕ → List ℕ → Type 0
-KnownSmall terminals nonterminals carrying inherited synthesized = (s : ℕ) → symbolKnown terminals nonterminals s ≡ true → (s < 176) × (countAt inherited s + synthesizedAt carrying synthesized s ≤ 8)
+KnownSmall terminals nonterminals carrying inherited synthesized = (s : ℕ) → symbolKnown terminals nonterminals s ≡ true → (s < symbolBytes) × (countAt inherited s + synthesizedAt carrying synthesized s ≤ attributesLimit)
 
 -- a symbol that is known: its bit, and its words wherever it stands on the right
 pub record FoundAs (terminals nonterminals carrying : ℕ) (inherited synthesized : List ℕ) (s bit input other : ℕ) : Type 0 where
@@ -31,7 +33,7 @@ pub record FoundAs (terminals nonterminals carrying : ℕ) (inherited synthesize
 
 -- the right side of production p walked: whether its symbols are known, and if so its row, the word of its symbols and the words at its positions
 pub record RightPlaced (rows₀ : List ℕ) (p : ℕ) (b : List ℕ) (terminals nonterminals carrying : ℕ) (inherited synthesized rows inputs settled : List ℕ) (known : Bool) (word : ℕ) : Type 0 where
-  pub kept : length rows ≡ 2048
+  pub kept : length rows ≡ rowsLength
   pub isKnown : known ≡ symbolsKnown terminals nonterminals b 2
   pub copied : known ≡ true → Copied rows₀ p b rows (length b)
   pub worded : known ≡ true → RightWord b word

@@ -5,6 +5,9 @@ ghost use mathlib.Core.Bool.{true, false};
 ghost use mathlib.Core.List.{List};
 ghost use Prim.Native.Nat.{ℕ, _+_, _-_, _<_, _≤_};
 ghost use lib.ListN.{length, set, replicate};
+ghost use Rattle.outline.specs.Images.{rowsLength};
+ghost use Rattle.meaning.specs.Grammar.{nonterminalBase};
+ghost use Rattle.meaning.specs.Limits.{attributesLimit, positionsLimit, productionsLimit};
 ghost use Rattle.meaning.specs.Table.{byte};
 ghost use Rattle.table_fields.specs.Judge.{symbolKnown};
 ghost use Rattle.outline.specs.Counts.{countAt, synthesizedAt};
@@ -35,7 +38,7 @@ pub struct Right {
 
 // The inputs of a token, which has no outputs: its value, where it carries one.
 fn token_word(carrying: TokenSet, symbol: usize) -> u16
-    requires { ⌜ symbol < 128 ⌝ }
+    requires { ⌜ symbol < nonterminalBase ⌝ }
     ensures { λ r. ⌜ ((k : ℕ) (inherited synthesized : List ℕ) → 1 ≤ k → r ≡ inputWord k (countAt inherited symbol) (synthesizedAt (carrying .0) synthesized symbol)) ⌝ }
 {
     if carrying.has(symbol as u8) {
@@ -59,7 +62,7 @@ fn unknown() -> Found
 
 // A token, by its number.
 fn find_token(sizes: Sizes, symbol: usize) -> Found
-    requires { ⌜ symbol < 128 ⌝ }
+    requires { ⌜ symbol < nonterminalBase ⌝ }
     ensures found { λ r. ⌜ (r .known ≡ true → ((inherited synthesized : List ℕ) → FoundAs (sizes .terminals) (sizes .nonterminals) (sizes .carrying .0) inherited synthesized symbol (r .bit .0) (r .inputs) (r .others)) × (r .symbol ≡ symbol)) ⌝ }
     ensures other { λ r. ⌜ (r .known ≡ false → symbolKnown (sizes .terminals) (sizes .nonterminals) symbol ≡ false) ⌝ }
 {
@@ -84,7 +87,7 @@ fn find_nonterminal(
     synthesized: &[u8; NONTERMINALS],
     symbol: usize,
 ) -> Found
-    requires { ⌜ (128 ≤ symbol) × (symbol < 256) × KnownSmall (sizes .terminals) (sizes .nonterminals) (sizes .carrying .0) (now inherited) (now synthesized) ⌝ }
+    requires { ⌜ (nonterminalBase ≤ symbol) × (symbol < 256) × KnownSmall (sizes .terminals) (sizes .nonterminals) (sizes .carrying .0) (now inherited) (now synthesized) ⌝ }
     ensures found { λ r. ⌜ (r .known ≡ true → FoundAs (sizes .terminals) (sizes .nonterminals) (sizes .carrying .0) (now (inherited .entry)) (now (synthesized .entry)) symbol (r .bit .0) (r .inputs) (r .others) × (r .symbol ≡ symbol)) ⌝ }
     ensures other { λ r. ⌜ (r .known ≡ false → symbolKnown (sizes .terminals) (sizes .nonterminals) symbol ≡ false) ⌝ }
 {
@@ -130,8 +133,8 @@ fn place_left(
     inputs: &mut [u16; POSITIONS],
     settled: &mut [u16; POSITIONS],
 )
-    requires { ⌜ (1 ≤ length (now body)) × (now inputs ≡ replicate 13 0) × (now settled ≡ replicate 13 65535)
-        × (countAt (now inherited) (128 + byte (now body) 0) + countAt (now synthesized) (128 + byte (now body) 0) ≤ 8) ⌝ }
+    requires { ⌜ (1 ≤ length (now body)) × (now inputs ≡ replicate positionsLimit 0) × (now settled ≡ replicate positionsLimit 65535)
+        × (countAt (now inherited) (nonterminalBase + byte (now body) 0) + countAt (now synthesized) (nonterminalBase + byte (now body) 0) ≤ attributesLimit) ⌝ }
     ensures inputs { λ r. ⌜ ((carrying : ℕ) → Filled (inputAt carrying (now (inherited .entry)) (now (synthesized .entry)) (now (body .entry))) 0 0 (now (inputs .exit))) ⌝ }
     ensures others { λ r. ⌜ ((carrying : ℕ) → Filled (otherAt carrying (now (inherited .entry)) (now (synthesized .entry)) (now (body .entry))) 0 65535 (now (settled .exit))) ⌝ }
 {
@@ -150,7 +153,7 @@ fn put(
     input: u16,
     other: u16,
 )
-    requires { ⌜ (at < 13) × (length (now inputs) ≡ 13) × (length (now settled) ≡ 13) ⌝ }
+    requires { ⌜ (at < positionsLimit) × (length (now inputs) ≡ positionsLimit) × (length (now settled) ≡ positionsLimit) ⌝ }
     ensures { λ r. ⌜ (now (inputs .exit) ≡ set (now (inputs .entry)) at input) × (now (settled .exit) ≡ set (now (settled .entry)) at other) ⌝ }
 {
     inputs[at] = input;
@@ -169,7 +172,7 @@ fn place_right(
     inputs: &mut [u16; POSITIONS],
     settled: &mut [u16; POSITIONS],
 ) -> Right
-    requires { ⌜ (p < 128) × (2 ≤ length (now body)) × (length (now body) ≤ 14) × (length (now rows) ≡ 2048) × KnownSmall (sizes .terminals) (sizes .nonterminals) (sizes .carrying .0) (now inherited) (now synthesized)
+    requires { ⌜ (p < productionsLimit) × (2 ≤ length (now body)) × (length (now body) ≤ 14) × (length (now rows) ≡ rowsLength) × KnownSmall (sizes .terminals) (sizes .nonterminals) (sizes .carrying .0) (now inherited) (now synthesized)
         × Filled (inputAt (sizes .carrying .0) (now inherited) (now synthesized) (now body)) 0 0 (now inputs) × Filled (otherAt (sizes .carrying .0) (now inherited) (now synthesized) (now body)) 0 65535 (now settled) ⌝ }
     ensures { λ r. ⌜ RightPlaced (now (rows .entry)) p (now (body .entry)) (sizes .terminals) (sizes .nonterminals) (sizes .carrying .0) (now (inherited .entry)) (now (synthesized .entry)) (now (rows .exit)) (now (inputs .exit)) (now (settled .exit)) (r .known) (r .word .0) ⌝ }
 {
@@ -209,8 +212,8 @@ pub fn read_right(
     inputs: &mut [u16; POSITIONS],
     settled: &mut [u16; POSITIONS],
 ) -> Right
-    requires { ⌜ (p < 128) × (2 ≤ length (now body)) × (length (now body) ≤ 14) × (length (now rows) ≡ 2048) × KnownSmall (sizes .terminals) (sizes .nonterminals) (sizes .carrying .0) (now inherited) (now synthesized)
-        × (now inputs ≡ replicate 13 0) × (now settled ≡ replicate 13 65535) × (countAt (now inherited) (128 + byte (now body) 0) + countAt (now synthesized) (128 + byte (now body) 0) ≤ 8) ⌝ }
+    requires { ⌜ (p < productionsLimit) × (2 ≤ length (now body)) × (length (now body) ≤ 14) × (length (now rows) ≡ rowsLength) × KnownSmall (sizes .terminals) (sizes .nonterminals) (sizes .carrying .0) (now inherited) (now synthesized)
+        × (now inputs ≡ replicate positionsLimit 0) × (now settled ≡ replicate positionsLimit 65535) × (countAt (now inherited) (nonterminalBase + byte (now body) 0) + countAt (now synthesized) (nonterminalBase + byte (now body) 0) ≤ attributesLimit) ⌝ }
     ensures { λ r. ⌜ RightPlaced (now (rows .entry)) p (now (body .entry)) (sizes .terminals) (sizes .nonterminals) (sizes .carrying .0) (now (inherited .entry)) (now (synthesized .entry)) (now (rows .exit)) (now (inputs .exit)) (now (settled .exit)) (r .known) (r .word .0) ⌝ }
 {
     place_left(body, inherited, synthesized, inputs, settled);

@@ -9,13 +9,14 @@ use native.Mathlib.Decide.{ℕ-discrete}
 use lib.ListN.{getD, length, set, replicate, length-set, length-replicate}
 use lib.Seq.{getD-set-same, getD-set-other}
 use borrow.Author.Tests.{not-false}
+use Rattle.meaning.specs.Limits.{positionsLimit}
 use Rattle.table_fields.proofs.Cases.{lt-or-le}
 use Rattle.table_fields.proofs.Demands.{equal-yes, equal-no}
 use Rattle.table_rules.specs.Rule.{Small, bit, classAt}
 use Rattle.table_rules.proofs.Laws.{class-inside, class-first, class-last}
 use Rattle.table_rule_note.proofs.Bits.{bit-zero}
-use Rattle.table_rule_note.proofs.Noting.{zeros}
 use Rattle.table_rule_fields.proofs.Sound.{output-left, output-right, input-left, input-right}
+use Rattle.theory_base.specs.Members.{replicate-at}
 use Rattle.table_occurrences.specs.OccurrenceBits.{rangeWord, inputWord, outputWord, otherWord, Filled, Inputs, Settled}
 use Rattle.table_occurrences.proofs.Ranges.{between, between-yes, between-low, between-high, range-in, range-out, full}
 
@@ -24,23 +25,23 @@ use Rattle.table_occurrences.proofs.Ranges.{between, between-yes, betwe
 -- words are written below k, and stand as they were from k on
 pub record Filling (f : ℕ → ℕ) (none k : ℕ) (words : List ℕ) : Type 0 where
   pub each : (j : ℕ) → j < k → getD words j 0 ≡ f j
-  pub beyond : (j : ℕ) → k ≤ j → j < 13 → getD words j 0 ≡ none
-  pub kept : length words ≡ 13
+  pub beyond : (j : ℕ) → k ≤ j → j < positionsLimit → getD words j 0 ≡ none
+  pub kept : length words ≡ positionsLimit
 
 replicated : (x n k : ℕ) → k < n → getD (replicate n x) k 0 ≡ x
 replicated x zero k l = absurd (omega arith)
 replicated x (suc n) zero l = refl
 replicated x (suc n) (suc k) l = replicated x n k (omega arith)
 
-pub filling-start : (f : ℕ → ℕ) (none : ℕ) (words : List ℕ) → words ≡ replicate 13 none → Filling f none 0 words
+pub filling-start : (f : ℕ → ℕ) (none : ℕ) (words : List ℕ) → words ≡ replicate positionsLimit none → Filling f none 0 words
 filling-start f none words e =
     record {
       each = λ j l. absurd (omega arith);
-      beyond = λ j l m. ap (λ (w : List ℕ). getD w j 0) e ∙ replicated none 13 j m;
-      kept = ap length e ∙ length-replicate {A = ℕ} 13 none;
+      beyond = λ j l m. ap (λ (w : List ℕ). getD w j 0) e ∙ replicated none positionsLimit j m;
+      kept = ap length e ∙ length-replicate {A = ℕ} positionsLimit none;
     }
 
-module _ (f : ℕ → ℕ) (none k : ℕ) (words : List ℕ) (w : Filling f none k words) (room : k < 13) where
+module _ (f : ℕ → ℕ) (none k : ℕ) (words : List ℕ) (w : Filling f none k words) (room : k < positionsLimit) where
   pub filling-more : (x : ℕ) → x ≡ f k → Filling f none (k + 1) (set words k x)
   filling-more x e =
       record {
@@ -184,10 +185,10 @@ module _ (width : ℕ) (inh syn : List ℕ) (small : Small width inh syn) (i s :
         let l = inside width inh syn p a out in
         bit-at p a l m ∙ ap not (class-output width inh syn small p a l m out)
 
-    none-noted : (p a : ℕ) → bit (getD (replicate 13 0) p 0) (a - 1) ≡ false
-    none-noted p a = ap (λ (x : ℕ). bit x (a - 1)) (zeros 13 p) ∙ bit-zero (a - 1)
+    none-noted : (p a : ℕ) → bit (getD (replicate positionsLimit 0) p 0) (a - 1) ≡ false
+    none-noted p a = ap (λ (x : ℕ). bit x (a - 1)) (replicate-at {A = ℕ} positionsLimit p 0) ∙ bit-zero (a - 1)
 
-    pub settled-placed : Settled width inh syn (replicate 13 0) words
+    pub settled-placed : Settled width inh syn (replicate positionsLimit 0) words
     settled-placed =
         record {
           unset = λ p a l m e.
@@ -197,6 +198,6 @@ module _ (width : ℕ) (inh syn : List ℕ) (small : Small width inh syn) (i s :
               (lt-or-le width p);
           unnoted = λ p a l m out e. output-unnoted p a m out;
           only = λ p a l f g e. absurd (true≢false (sym e ∙ none-noted p a));
-          noteKept = length-replicate {A = ℕ} 13 0;
+          noteKept = length-replicate {A = ℕ} positionsLimit 0;
           kept = w .kept;
         }

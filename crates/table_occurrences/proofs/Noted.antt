@@ -7,6 +7,7 @@ use mathlib.Core.Logic.{⊎-elim}
 use native.Mathlib.Omega.{arith}
 use lib.Bits.{bitAnd}
 use lib.ListN.{getD}
+use Rattle.meaning.specs.Limits.{attributesLimit, positionsLimit}
 use Rattle.table_fields.proofs.Cases.{lt-or-le}
 use Rattle.table_rules.specs.Rule.{Small, bit, classAt}
 use Rattle.table_rule_note.proofs.Bits.{bit-both, bit-suc, bit-zero}
@@ -16,7 +17,7 @@ use Rattle.table_occurrences.proofs.Laws.{inside, output-class, class-o
 
 -- ---- what the words tell of the note
 
-module _ (width : ℕ) (inh syn note words : List ℕ) (w : Settled width inh syn note words) (p a : ℕ) (place : p < 13) where
+module _ (width : ℕ) (inh syn note words : List ℕ) (w : Settled width inh syn note words) (p a : ℕ) (place : p < positionsLimit) where
   output-noted : a < 16 → 2 ≡ classAt width inh syn p a → bit (getD words p 0) a ≡ bit (getD note p 0) (a - 1)
   output-noted m out = go (bit (getD words p 0) a) (bit (getD note p 0) (a - 1)) refl refl
     where
@@ -26,7 +27,7 @@ module _ (width : ℕ) (inh syn note words : List ℕ) (w : Settled width inh sy
       go false true e f = absurd (true≢false (sym f ∙ w .unset p a place m e .1))
       go true false e f = absurd (true≢false (sym e ∙ w .unnoted p a place m out f))
 
-  other-unnoted : 1 ≤ a → a ≤ 8 → (2 ≡ classAt width inh syn p a → ⊥) → false ≡ bit (getD note p 0) (a - 1)
+  other-unnoted : 1 ≤ a → a ≤ attributesLimit → (2 ≡ classAt width inh syn p a → ⊥) → false ≡ bit (getD note p 0) (a - 1)
   other-unnoted l m n = go (bit (getD note p 0) (a - 1)) refl
     where
       go : (y : Bool) → bit (getD note p 0) (a - 1) ≡ y → false ≡ y
@@ -52,7 +53,7 @@ module _ (width : ℕ) (inh syn words made : List ℕ) (small : Small width inh 
       ∙ bit-both (getD words p 0) (outputWord p (getD inh p 0) (getD syn p 0)) a
 
   module _ (note : List ℕ) (w : Settled width inh syn note words) where
-    same-inside : (p a : ℕ) → p < 13 → p ≤ width → 1 ≤ a → a ≤ 8 → bit (getD made p 0) (a - 1) ≡ bit (getD note p 0) (a - 1)
+    same-inside : (p a : ℕ) → p < positionsLimit → p ≤ width → 1 ≤ a → a ≤ attributesLimit → bit (getD made p 0) (a - 1) ≡ bit (getD note p 0) (a - 1)
     same-inside p a q l m n = made-bit p a l m ∙ go (bit (outputWord p (getD inh p 0) (getD syn p 0)) a) refl
       where
         near : a < 16
@@ -64,7 +65,7 @@ module _ (width : ℕ) (inh syn words made : List ℕ) (small : Small width inh 
             and-false (bit (getD words p 0) a)
             ∙ other-unnoted width inh syn note words w p a q m n (λ out. true≢false (sym (class-output width inh syn small p a l near out) ∙ e))
 
-    same-bits : (p a : ℕ) → p < 13 → 1 ≤ a → a ≤ 8 → bit (getD made p 0) (a - 1) ≡ bit (getD note p 0) (a - 1)
+    same-bits : (p a : ℕ) → p < positionsLimit → 1 ≤ a → a ≤ attributesLimit → bit (getD made p 0) (a - 1) ≡ bit (getD note p 0) (a - 1)
     same-bits p a q m n =
         ⊎-elim
         (λ l.

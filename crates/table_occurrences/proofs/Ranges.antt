@@ -5,6 +5,7 @@ use mathlib.Core.Bool.{Bool, true, false, _&&_, not, true≢false}
 use native.Mathlib.Omega.{arith}
 use lib.Dec.{eqb, leb, ltb}
 use borrow.Author.Tests.{le-leb, lt-ltb, leb-true, ltb-true, eqb-true}
+use Rattle.meaning.specs.Limits.{attributesLimit}
 use Rattle.meaning.specs.Base.{all, countFrom}
 use Rattle.table_rules.specs.Rule.{bit}
 use Rattle.theory_base.specs.Members.{all-counted}
@@ -41,7 +42,7 @@ between-high low high a e = leb-true a high (sym (ap (λ x. x && leb a high) (lt
 abbrev everywhere : (ℕ → ℕ → ℕ → Bool) → Bool
 everywhere f = all (λ low. all (λ high. all (f low high) (countFrom 0 16)) (countFrom low (9 - low))) (countFrom 0 9)
 
-somewhere : (f : ℕ → ℕ → ℕ → Bool) → everywhere f ≡ true → (low high a : ℕ) → low ≤ high → high ≤ 8 → a < 16 → f low high a ≡ true
+somewhere : (f : ℕ → ℕ → ℕ → Bool) → everywhere f ≡ true → (low high a : ℕ) → low ≤ high → high ≤ attributesLimit → a < 16 → f low high a ≡ true
 somewhere f e low high a l m q =
     all-counted (f low high) 0 16 a
     (all-counted (λ high. all (f low high) (countFrom 0 16)) low (9 - low) high
@@ -63,7 +64,7 @@ out-everywhere : everywhere outRange ≡ true
 unfolding bit rangeWord
 out-everywhere = refl
 
-module _ (low high a : ℕ) (l : low ≤ high) (m : high ≤ 8) (q : a < 16) where
+module _ (low high a : ℕ) (l : low ≤ high) (m : high ≤ attributesLimit) (q : a < 16) where
   pub range-in : bit (rangeWord low high) a ≡ between low high a
   range-in = same-is _ _ (somewhere inRange in-everywhere low high a l m q)
 
@@ -84,7 +85,7 @@ orderedPowers low high a = leb (2 * 2 ^ low % 2 ^ 16) (2 * 2 ^ high % 2 ^ 16)
 powers-ordered : everywhere orderedPowers ≡ true
 powers-ordered = refl
 
-pub power-order : (low high : ℕ) → low ≤ high → high ≤ 8 → 2 * 2 ^ low % 2 ^ 16 ≤ 2 * 2 ^ high % 2 ^ 16
+pub power-order : (low high : ℕ) → low ≤ high → high ≤ attributesLimit → 2 * 2 ^ low % 2 ^ 16 ≤ 2 * 2 ^ high % 2 ^ 16
 power-order low high l m = leb-true (2 * 2 ^ low % 2 ^ 16) (2 * 2 ^ high % 2 ^ 16) (somewhere orderedPowers powers-ordered low high 0 l m (omega arith))
 
 abbrev codeAlike : ℕ → ℕ → ℕ → Bool
@@ -94,7 +95,7 @@ codes-alike : everywhere codeAlike ≡ true
 unfolding rangeWord
 codes-alike = refl
 
-pub range-code : (low high : ℕ) → low ≤ high → high ≤ 8 → 2 * 2 ^ high % 2 ^ 16 - 2 * 2 ^ low % 2 ^ 16 ≡ rangeWord low high
+pub range-code : (low high : ℕ) → low ≤ high → high ≤ attributesLimit → 2 * 2 ^ high % 2 ^ 16 - 2 * 2 ^ low % 2 ^ 16 ≡ rangeWord low high
 range-code low high l m = eqb-true (2 * 2 ^ high % 2 ^ 16 - 2 * 2 ^ low % 2 ^ 16) (rangeWord low high) (somewhere codeAlike codes-alike low high 0 l m (omega arith))
 
 abbrev smallWord : ℕ → ℕ → ℕ → Bool
@@ -104,5 +105,5 @@ words-small : everywhere smallWord ≡ true
 unfolding rangeWord
 words-small = refl
 
-pub range-small : (low high : ℕ) → low ≤ high → high ≤ 8 → rangeWord low high ≤ 511
+pub range-small : (low high : ℕ) → low ≤ high → high ≤ attributesLimit → rangeWord low high ≤ 511
 range-small low high l m = leb-true (rangeWord low high) 511 (somewhere smallWord words-small low high 0 l m (omega arith))

@@ -5,6 +5,7 @@ use mathlib.Core.Bool.{true, false}
 use mathlib.Core.List.{List}
 use lib.Bits.{bitAnd, bitOr}
 use lib.ListN.{getD, length, set}
+use Rattle.meaning.specs.Limits.{attributesLimit, positionsLimit}
 use Rattle.meaning.specs.Grammar.{Rule, Occurrence}
 use Rattle.meaning.specs.Table.{byte}
 use Rattle.table_fields.specs.Demand.{ifEqual}
@@ -28,20 +29,20 @@ otherWord k i s = 65535 - outputWord k i s
 -- a word for each position up to a width, by the counts of its symbol; the others as they were before
 pub record Filled (f : ℕ → ℕ) (width none : ℕ) (words : List ℕ) : Type 0 where
   pub each : (k : ℕ) → k ≤ width → getD words k 0 ≡ f k
-  pub beyond : (k : ℕ) → width < k → k < 13 → getD words k 0 ≡ none
-  pub kept : length words ≡ 13
+  pub beyond : (k : ℕ) → width < k → k < positionsLimit → getD words k 0 ≡ none
+  pub kept : length words ≡ positionsLimit
 
 -- only inputs of the production have a bit
 pub record Inputs (width : ℕ) (inh syn words : List ℕ) : Type 0 where
-  pub each : (p a : ℕ) → p < 13 → a < 16 → bit (getD words p 0) a ≡ true → 1 ≡ classAt width inh syn p a
+  pub each : (p a : ℕ) → p < positionsLimit → a < 16 → bit (getD words p 0) a ≡ true → 1 ≡ classAt width inh syn p a
 
 -- all have a bit but the outputs of the production that are not in its note, which has no other occurrences
 pub record Settled (width : ℕ) (inh syn note words : List ℕ) : Type 0 where
-  pub unset : (p a : ℕ) → p < 13 → a < 16 → bit (getD words p 0) a ≡ false → (2 ≡ classAt width inh syn p a) × (bit (getD note p 0) (a - 1) ≡ false)
-  pub unnoted : (p a : ℕ) → p < 13 → a < 16 → 2 ≡ classAt width inh syn p a → bit (getD note p 0) (a - 1) ≡ false → bit (getD words p 0) a ≡ false
-  pub only : (p a : ℕ) → p < 13 → 1 ≤ a → a ≤ 8 → bit (getD note p 0) (a - 1) ≡ true → 2 ≡ classAt width inh syn p a
-  pub noteKept : length note ≡ 13
-  pub kept : length words ≡ 13
+  pub unset : (p a : ℕ) → p < positionsLimit → a < 16 → bit (getD words p 0) a ≡ false → (2 ≡ classAt width inh syn p a) × (bit (getD note p 0) (a - 1) ≡ false)
+  pub unnoted : (p a : ℕ) → p < positionsLimit → a < 16 → 2 ≡ classAt width inh syn p a → bit (getD note p 0) (a - 1) ≡ false → bit (getD words p 0) a ≡ false
+  pub only : (p a : ℕ) → p < positionsLimit → 1 ≤ a → a ≤ attributesLimit → bit (getD note p 0) (a - 1) ≡ true → 2 ≡ classAt width inh syn p a
+  pub noteKept : length note ≡ positionsLimit
+  pub kept : length words ≡ positionsLimit
 
 -- the note with the target of a rule
 abbrev pub notedBy : List ℕ → List ℕ → List ℕ

@@ -3,13 +3,14 @@
 ghost use mathlib.Core.Path.{_≡_};
 ghost use Prim.Native.Nat.{_+_, _/_, _<_, _≤_};
 ghost use lib.Bits.{bitAnd};
+ghost use Rattle.meaning.specs.Limits.{attributesLimit};
 ghost use Rattle.table_rules.specs.Rule.{Small};
 ghost use Rattle.table_occurrences.specs.OccurrenceBits.{rangeWord, outputWord, NoteOf};
 use limits::POSITIONS;
 
 // The attributes above one number up to another.
 pub fn range_word(low: usize, high: usize) -> u16
-    requires { ⌜ (low ≤ high) × (high ≤ 8) ⌝ }
+    requires { ⌜ (low ≤ high) × (high ≤ attributesLimit) ⌝ }
     ensures { λ r. ⌜ r ≡ rangeWord low high ⌝ }
 {
     (2u16 << high) - (2u16 << low)
@@ -17,7 +18,7 @@ pub fn range_word(low: usize, high: usize) -> u16
 
 // The outputs at a position, by the counts of its symbol.
 fn output_word(k: usize, i: usize, s: usize) -> u16
-    requires { ⌜ i + s ≤ 8 ⌝ }
+    requires { ⌜ i + s ≤ attributesLimit ⌝ }
     ensures { λ r. ⌜ (r ≡ outputWord k i s) × (r < 512) ⌝ }
 {
     if k == 0 {

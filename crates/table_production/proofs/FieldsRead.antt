@@ -5,6 +5,7 @@ use mathlib.Core.Bool.{Bool, true, false}
 use mathlib.Core.List.{List}
 use native.Mathlib.Omega.{arith}
 use lib.ListN.{length}
+use Rattle.outline.specs.Images.{rowsLength}
 use Rattle.table_fields.specs.Judge.{symbolsKnown}
 use Rattle.table_fields.proofs.Rest.{body-length}
 use Rattle.table_fields.proofs.Cases.{nonzero}
@@ -14,7 +15,7 @@ use Rattle.table_occurrence_words.specs.Placed.{inputAt, otherAt, RightPlaced}
 use Rattle.table_production.specs.Productions.{widthIn, bodyIn, HeadJudged, FieldRead}
 
 module _ (t : List ℕ) (at p terminals nonterminals carrying : ℕ) (inherited synthesized : List ℕ) (number : ℕ) (h : HeadJudged t at p nonterminals number) where
-  pub field-refused : (rows inputs settled : List ℕ) (word : ℕ) → (number ≡ 0 → ⊥) → length rows ≡ 2048 → FieldRead t at p terminals nonterminals carrying inherited synthesized rows rows inputs settled number word
+  pub field-refused : (rows inputs settled : List ℕ) (word : ℕ) → (number ≡ 0 → ⊥) → length rows ≡ rowsLength → FieldRead t at p terminals nonterminals carrying inherited synthesized rows rows inputs settled number word
   field-refused rows inputs settled word n long = record { judged = h .refused n terminals; kept = long; copied = λ q. absurd (n q); worded = λ q. absurd (n q); placed = λ q. absurd (n q) }
 
   module _ (z : number ≡ 0) (part rows₀ rows inputs settled : List ℕ) (known : Bool) (word : ℕ) (is-part : part ≡ bodyIn t at) (r : RightPlaced rows₀ p part terminals nonterminals carrying inherited synthesized rows inputs settled known word) where

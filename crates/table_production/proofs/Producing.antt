@@ -10,10 +10,11 @@ use lib.Dec.{ltb}
 use lib.ListN.{length, getD, take, drop, length-drop, length-map, List·getD-map}
 use lib.Seq.{getD-drop}
 use borrow.Author.Tests.{ltb-true, ltb-false, le-ltb}
+use Rattle.meaning.specs.Limits.{attributesLimit, nonterminalsLimit}
 use Rattle.meaning.specs.Base.{countFrom}
 use Rattle.meaning.specs.Sets.{has}
 use Rattle.token_set.specs.SetBits.{setOf}
-use Rattle.meaning.specs.Grammar.{Counts, noCounts, attributeIf, Symbol, terminal, nonterminal, countsIn}
+use Rattle.meaning.specs.Grammar.{Counts, noCounts, Symbol, terminal, nonterminal, countsIn, nonterminalBase}
 use Rattle.meaning.specs.Table.{byte, Header, Entry, readField, kindOf, judgeField, symbolOf}
 use Rattle.table_fields.specs.Demand.{ifBelow}
 use Rattle.table_fields.specs.Field.{Whole, Short, rest, bodyAt}
@@ -40,6 +41,8 @@ use Rattle.table_sound_items.proofs.Walking.{body-taken-by}
 use Rattle.table_production.specs.Productions.{widthIn, bodyIn, leftIn, rightIn, ProductionKnown, ProductionJudged, HeadJudged, SmallBody, WordsPlaced, CountsAgree, BodyRead}
 use Rattle.table_counts.proofs.Counting.{length-counts}
 use Rattle.table_fields.proofs.Cases.{lt-or-le, nonzero}
+use Rattle.theory_base.specs.Feeds.{attribute-most}
+use Rattle.theory_sets.specs.Tests.{getD-countFrom}
 
 none-of : (es : List Entry) → length es ≡ 0 → es ≡ []
 none-of [] e = refl
@@ -181,8 +184,8 @@ part-in t at w e = ap (λ (n : ℕ). take n (drop (at + 3) t)) {x = at + 5 + w -
 
 -- the counts of its left side
 pub head-left :
-    (t : List ℕ) (at : ℕ) (inherited synthesized part : List ℕ) → part ≡ bodyIn t at → at + 5 + widthIn t at ≤ length t → countAt inherited (128 + leftIn t at) + countAt synthesized (128 + leftIn t at) ≤ 8
-    → countAt inherited (128 + byte part 0) + countAt synthesized (128 + byte part 0) ≤ 8
+    (t : List ℕ) (at : ℕ) (inherited synthesized part : List ℕ) → part ≡ bodyIn t at → at + 5 + widthIn t at ≤ length t → countAt inherited (nonterminalBase + leftIn t at) + countAt synthesized (nonterminalBase + leftIn t at) ≤ attributesLimit
+    → countAt inherited (nonterminalBase + byte part 0) + countAt synthesized (nonterminalBase + byte part 0) ≤ attributesLimit
 head-left t at inherited synthesized part is long small =
     let same : byte part 0 ≡ leftIn t at = ap (λ (x : List ℕ). byte x 0) is ∙ body-byte t at (2 + widthIn t at) 0 (omega arith) ∙ ap (byte t) {x = at + 3 + 0} {y = at + 3} (omega arith) in
     rw same small
@@ -208,9 +211,6 @@ module _ {A : Type 0} (d : A) where
   numbered P xs e m h = reverse-onto P xs [] e m h
 
 -- a terminal has at most one attribute
-one-most : (b : Bool) → attributeIf b ≤ 1
-one-most true = omega arith
-one-most false = omega arith
 
 module _ (inh syn : List ℕ) where
   abbrev Right : ℕ → Counts → Type 0
@@ -232,49 +232,49 @@ module _ (inh syn : List ℕ) where
       pub first : countAt inh k ≡ countsIn (reverse cs) (reverse ws) x .inherited
       pub second : synthesizedAt carrying syn k ≡ countsIn (reverse cs) (reverse ws) x .synthesized
 
-    of-terminal : Carries carrying (reverse ws) → (k : ℕ) → k < 128 → SymbolCounts (terminal k) k
+    of-terminal : Carries carrying (reverse ws) → (k : ℕ) → k < nonterminalBase → SymbolCounts (terminal k) k
     of-terminal held k l = record { first = sym (count-terminal inh k l); second = sym (synthesized-terminal carrying syn k l refl (held .each k)) }
 
-    of-nonterminal : (k : ℕ) → 128 ≤ k → k - 128 < n → SymbolCounts (nonterminal (k - 128)) k
+    of-nonterminal : (k : ℕ) → nonterminalBase ≤ k → k - nonterminalBase < n → SymbolCounts (nonterminal (k - nonterminalBase)) k
     of-nonterminal k l h =
         record {
-          first = sym (count-nonterminal inh k _ l (ap (λ x. x .inherited) (counts-at n (k - 128) h)));
-          second = sym (synthesized-nonterminal carrying syn k _ l (count-nonterminal syn k _ l (ap (λ x. x .synthesized) (counts-at n (k - 128) h))));
+          first = sym (count-nonterminal inh k _ l (ap (λ x. x .inherited) (counts-at n (k - nonterminalBase) h)));
+          second = sym (synthesized-nonterminal carrying syn k _ l (count-nonterminal syn k _ l (ap (λ x. x .synthesized) (counts-at n (k - nonterminalBase) h))));
         }
 
     of-symbol : Carries carrying (reverse ws) → (terminals k : ℕ) → symbolKnown terminals n k ≡ true → SymbolCounts (symbolOf k) k
     unfolding symbolKnown ifBelow
-    of-symbol held terminals k e = go (ltb k 128) refl
+    of-symbol held terminals k e = go (ltb k nonterminalBase) refl
       where
-        go : (b : Bool) → ltb k 128 ≡ b → SymbolCounts (elim b [ true ↦ terminal k | false ↦ nonterminal (k - 128) ]) k
-        go true q = of-terminal held k (ltb-true k 128 q)
+        go : (b : Bool) → ltb k nonterminalBase ≡ b → SymbolCounts (elim b [ true ↦ terminal k | false ↦ nonterminal (k - nonterminalBase) ]) k
+        go true q = of-terminal held k (ltb-true k nonterminalBase q)
         go false q =
-            of-nonterminal k (ltb-false k 128 q)
-            (ltb-true (k - 128) n (sym (ap (λ (b : Bool). cond b (ltb k terminals) (ltb (k - 128) n)) q) ∙ e))
+            of-nonterminal k (ltb-false k nonterminalBase q)
+            (ltb-true (k - nonterminalBase) n (sym (ap (λ (b : Bool). cond b (ltb k terminals) (ltb (k - nonterminalBase) n)) q) ∙ e))
 
-    small-count : SmallCounts inh syn n → (k : ℕ) → (128 ≤ k → k - 128 < n) → countAt inh k + synthesizedAt carrying syn k ≤ 8
-    small-count small k h = ⊎-elim low high (lt-or-le k 128)
+    small-count : SmallCounts inh syn n → (k : ℕ) → (nonterminalBase ≤ k → k - nonterminalBase < n) → countAt inh k + synthesizedAt carrying syn k ≤ attributesLimit
+    small-count small k h = ⊎-elim low high (lt-or-le k nonterminalBase)
       where
-        low : k < 128 → countAt inh k + synthesizedAt carrying syn k ≤ 8
-        low l = omega (arith, count-terminal inh k l, synthesized-terminal carrying syn k l refl refl, one-most (has (setOf carrying) k))
+        low : k < nonterminalBase → countAt inh k + synthesizedAt carrying syn k ≤ attributesLimit
+        low l = omega (arith, count-terminal inh k l, synthesized-terminal carrying syn k l refl refl, attribute-most (has (setOf carrying) k))
 
-        high : 128 ≤ k → countAt inh k + synthesizedAt carrying syn k ≤ 8
+        high : nonterminalBase ≤ k → countAt inh k + synthesizedAt carrying syn k ≤ attributesLimit
         high l =
             let first = count-nonterminal inh k _ l refl in
             let second = synthesized-nonterminal carrying syn k _ l (count-nonterminal syn k _ l refl) in
-            omega (arith, first, second, small (k - 128) (h l))
+            omega (arith, first, second, small (k - nonterminalBase) (h l))
 
 -- the nonterminals among known symbols
-pub known-below : (terminals n k : ℕ) → symbolKnown terminals n k ≡ true → 128 ≤ k → k - 128 < n
+pub known-below : (terminals n k : ℕ) → symbolKnown terminals n k ≡ true → nonterminalBase ≤ k → k - nonterminalBase < n
 unfolding symbolKnown ifBelow
-known-below terminals n k e l = ltb-true (k - 128) n (sym (ap (λ (b : Bool). cond b (ltb k terminals) (ltb (k - 128) n)) (le-ltb k 128 l)) ∙ e)
+known-below terminals n k e l = ltb-true (k - nonterminalBase) n (sym (ap (λ (b : Bool). cond b (ltb k terminals) (ltb (k - nonterminalBase) n)) (le-ltb k nonterminalBase l)) ∙ e)
 
 module _ (terminals nonterminals carrying : ℕ) (inh syn : List ℕ) (small : SmallCounts inh syn nonterminals) where
-  pub known-small : nonterminals ≤ 48 → KnownSmall terminals nonterminals carrying inh syn
-  known-small few s e = (⊎-elim (λ l. omega arith) (λ l. omega (arith, known-below terminals nonterminals s e l)) (lt-or-le s 128), small-count inh syn carrying [] nonterminals small s (known-below terminals nonterminals s e))
+  pub known-small : nonterminals ≤ nonterminalsLimit → KnownSmall terminals nonterminals carrying inh syn
+  known-small few s e = (⊎-elim (λ l. omega arith) (λ l. omega (arith, known-below terminals nonterminals s e l)) (lt-or-le s nonterminalBase), small-count inh syn carrying [] nonterminals small s (known-below terminals nonterminals s e))
 
-  pub left-small : (left : ℕ) → left < nonterminals → countAt inh (128 + left) + countAt syn (128 + left) ≤ 8
-  left-small left l = omega (arith, count-nonterminal inh (128 + left) _ (omega arith) refl, count-nonterminal syn (128 + left) _ (omega arith) refl, small (128 + left - 128) (omega arith))
+  pub left-small : (left : ℕ) → left < nonterminals → countAt inh (nonterminalBase + left) + countAt syn (nonterminalBase + left) ≤ attributesLimit
+  left-small left l = omega (arith, count-nonterminal inh (nonterminalBase + left) _ (omega arith) refl, count-nonterminal syn (nonterminalBase + left) _ (omega arith) refl, small (nonterminalBase + left - nonterminalBase) (omega arith))
 
 module _ (t : List ℕ) (at p terminals nonterminals carrying : ℕ) (inh syn : List ℕ) (known : ProductionKnown t at p terminals nonterminals) where
   pub long-in : length (bodyIn t at) ≡ 2 + widthIn t at
@@ -291,9 +291,9 @@ module _ (t : List ℕ) (at p terminals nonterminals carrying : ℕ) (inh syn : 
   each-position : (ws : List ℕ) → Carries carrying (reverse ws) → (k : ℕ) → k ≤ widthIn t at → SymbolCounts inh syn carrying ws nonterminals (symbolIn (leftIn t at) (rightIn t at) k) (symbolByte (bodyIn t at) k)
   each-position ws held zero l =
       subst₂ (SymbolCounts inh syn carrying ws nonterminals)
-      (ap nonterminal {x = 128 + leftIn t at - 128} {y = leftIn t at} (omega arith))
-      (ap (λ (x : ℕ). 128 + x) (sym left-byte))
-      (of-nonterminal inh syn carrying ws nonterminals (128 + leftIn t at) (omega arith) (omega (arith, known .left)))
+      (ap nonterminal {x = nonterminalBase + leftIn t at - nonterminalBase} {y = leftIn t at} (omega arith))
+      (ap (λ (x : ℕ). nonterminalBase + x) (sym left-byte))
+      (of-nonterminal inh syn carrying ws nonterminals (nonterminalBase + leftIn t at) (omega arith) (omega (arith, known .left)))
   each-position ws held (suc k) l =
       subst (λ x. SymbolCounts inh syn carrying ws nonterminals x (byte (bodyIn t at) (k + 2))) (sym (right-symbol k))
       (of-symbol inh syn carrying ws nonterminals held terminals (byte (bodyIn t at) (k + 2)) (known .symbols k (omega arith)))
@@ -301,8 +301,8 @@ module _ (t : List ℕ) (at p terminals nonterminals carrying : ℕ) (inh syn : 
   pub counts-agree : (ws : List ℕ) → Carries carrying (reverse ws) → CountsAgree t at carrying inh syn (countsUpTo inh syn nonterminals) ws
   counts-agree ws held = record { inherits = λ k l. each-position ws held k l .first; synthesizes = λ k l. each-position ws held k l .second }
 
-  small-position : SmallCounts inh syn nonterminals → (k : ℕ) → k ≤ widthIn t at → countAt inh (symbolByte (bodyIn t at) k) + synthesizedAt carrying syn (symbolByte (bodyIn t at) k) ≤ 8
-  small-position small zero l = small-count inh syn carrying [] nonterminals small (128 + byte (bodyIn t at) 0) (λ h. omega (arith, left-byte, known .left))
+  small-position : SmallCounts inh syn nonterminals → (k : ℕ) → k ≤ widthIn t at → countAt inh (symbolByte (bodyIn t at) k) + synthesizedAt carrying syn (symbolByte (bodyIn t at) k) ≤ attributesLimit
+  small-position small zero l = small-count inh syn carrying [] nonterminals small (nonterminalBase + byte (bodyIn t at) 0) (λ h. omega (arith, left-byte, known .left))
   small-position small (suc k) l =
       small-count inh syn carrying [] nonterminals small (byte (bodyIn t at) (k + 2)) (known-below terminals nonterminals (byte (bodyIn t at) (k + 2)) (known .symbols k (omega arith)))
 
@@ -350,16 +350,11 @@ module _ (t : List ℕ) (at w carrying : ℕ) (inherited synthesized inh syn par
 
 -- ---- sound rules and conditions, by lists of counts
 
-counted-at : (g : ℕ → ℕ) (n j k : ℕ) → k < n → getD (map g (countFrom j n)) k 0 ≡ g (j + k)
-counted-at g zero j k l = absurd (omega arith)
-counted-at g (suc n) j zero l = ap g {x = j} {y = j + 0} (omega arith)
-counted-at g (suc n) j (suc k) l = counted-at g n (suc j) k (omega arith) ∙ ap g {x = suc j + k} {y = j + suc k} (omega arith)
-
 abbrev placesOf : (ℕ → ℕ) → List ℕ → List ℕ
 placesOf f b = map (λ k. f (symbolByte b k)) (countFrom 0 (length b))
 
 placed-by : (f : ℕ → ℕ) (b : List ℕ) → Written f b (placesOf f b)
-placed-by f b = record { each = λ k l. counted-at (λ j. f (symbolByte b j)) (length b) 0 k (omega arith) ∙ ap (λ (j : ℕ). f (symbolByte b j)) {x = 0 + k} {y = k} (omega arith) }
+placed-by f b = record { each = λ k l. getD-countFrom (λ j. f (symbolByte b j)) 0 (length b) k 0 (omega arith) ∙ ap (λ (j : ℕ). f (symbolByte b j)) {x = 0 + k} {y = k} (omega arith) }
 
 pub sound-body :
     (t : List ℕ) (at carrying : ℕ) (inherited synthesized : List ℕ) (r₀ c₀ end r c : ℕ) → at + 5 + widthIn t at ≤ length t → SmallBody t at carrying inherited synthesized

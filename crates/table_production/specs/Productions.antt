@@ -4,7 +4,8 @@ use mathlib.Core.Path.{_≡_}
 use mathlib.Core.Bool.{true, false}
 use mathlib.Core.List.{List, [], _∷_, map, reverse}
 use lib.ListN.{length, drop}
-use Rattle.meaning.specs.Limits.{tableLimit}
+use Rattle.outline.specs.Images.{rowsLength}
+use Rattle.meaning.specs.Limits.{tableLimit, attributesLimit, nonterminalsLimit, productionsLimit, symbolsLimit, terminalsLimit}
 use Rattle.meaning.specs.Grammar.{Counts, Symbol, Rule, Condition, Occurrence, countsIn}
 use Rattle.meaning.specs.Table.{byte, Header, Entry, lastComplete, symbolOf}
 use Rattle.table_fields.specs.Field.{rest, judged, bodyAt}
@@ -39,8 +40,8 @@ rightIn t at = map symbolOf (drop 2 (bodyIn t at))
 -- what a good production field tells of the table
 pub record ProductionKnown (t : List ℕ) (at p terminals nonterminals : ℕ) : Type 0 where
   pub long : at + 5 + widthIn t at ≤ length t
-  pub short : widthIn t at ≤ 12
-  pub few : p < 128
+  pub short : widthIn t at ≤ symbolsLimit
+  pub few : p < productionsLimit
   pub left : leftIn t at < nonterminals
   pub symbols : (k : ℕ) → k < widthIn t at → symbolKnown terminals nonterminals (byte (bodyIn t at) (k + 2)) ≡ true
 
@@ -59,8 +60,8 @@ pub record HeadJudged (t : List ℕ) (at p nonterminals number : ℕ) : Type 0 w
   pub unknown : number ≡ 0 → (terminals : ℕ) → symbolsKnown terminals nonterminals (bodyIn t at) 2 ≡ false → ProductionJudged t at p terminals nonterminals 5
   pub fine : number ≡ 0 → (terminals : ℕ) → symbolsKnown terminals nonterminals (bodyIn t at) 2 ≡ true → ProductionJudged t at p terminals nonterminals 0
   pub long : number ≡ 0 → at + 5 + widthIn t at ≤ length t
-  pub short : number ≡ 0 → widthIn t at ≤ 12
-  pub few : number ≡ 0 → p < 128
+  pub short : number ≡ 0 → widthIn t at ≤ symbolsLimit
+  pub few : number ≡ 0 → p < productionsLimit
   pub left : number ≡ 0 → leftIn t at < nonterminals
 
 -- the words at the positions of the production at an offset
@@ -71,7 +72,7 @@ WordsPlaced t at carrying inherited synthesized inputs settled =
 -- the field of production p read: its number, and where that is 0 its row, the word of its right side and the words at its positions
 pub record FieldRead (t : List ℕ) (at p terminals nonterminals carrying : ℕ) (inherited synthesized rows₀ rows inputs settled : List ℕ) (number word : ℕ) : Type 0 where
   pub judged : ProductionJudged t at p terminals nonterminals number
-  pub kept : length rows ≡ 2048
+  pub kept : length rows ≡ rowsLength
   pub copied : number ≡ 0 → Copied rows₀ p (bodyIn t at) rows (length (bodyIn t at))
   pub worded : number ≡ 0 → RightWord (bodyIn t at) word
   pub placed : number ≡ 0 → WordsPlaced t at carrying inherited synthesized inputs settled
@@ -79,8 +80,8 @@ pub record FieldRead (t : List ℕ) (at p terminals nonterminals carrying : ℕ)
 -- the counts that the arrays hold at the positions of a production are at most 8 together
 abbrev pub SmallBody : List ℕ → ℕ → ℕ → List ℕ → List ℕ → Type 0
 SmallBody t at carrying inherited synthesized =
-    (widthIn t at ≤ 12)
-    × ((k : ℕ) → k ≤ widthIn t at → countAt inherited (symbolByte (bodyIn t at) k) + synthesizedAt carrying synthesized (symbolByte (bodyIn t at) k) ≤ 8)
+    (widthIn t at ≤ symbolsLimit)
+    × ((k : ℕ) → k ≤ widthIn t at → countAt inherited (symbolByte (bodyIn t at) k) + synthesizedAt carrying synthesized (symbolByte (bodyIn t at) k) ≤ attributesLimit)
 
 -- and those of the counts and terminals read, latest first
 pub record CountsAgree (t : List ℕ) (at carrying : ℕ) (inherited synthesized : List ℕ) (cs : List Counts) (ws : List ℕ) : Type 0 where
@@ -107,9 +108,9 @@ pub record ProductionRead (t : List ℕ) (at p terminals nonterminals carrying :
       × (u .number ≡ 0 → lastComplete (stateOf h (countsUpTo inherited synthesized nonterminals) os ws (e ∷ es) (u .rules) (u .conditions)) ≡ true)
       × (u .number ≡ 0 → Laid rows offsets (e ∷ es))
   pub next : u .number ≡ 0 → Next t (at + 5) u
-  pub few : u .number ≡ 0 → p < 128
+  pub few : u .number ≡ 0 → p < productionsLimit
   pub inside : u .at ≤ length t
-  pub kept : (length rows ≡ 2048) × (length offsets ≡ 128)
+  pub kept : (length rows ≡ rowsLength) × (length offsets ≡ productionsLimit)
 
 -- the table after its header and counts
 pub record HeaderRead (t : List ℕ) (sizes : Sizes) (inherited synthesized : List ℕ) : Type 0 where
@@ -117,13 +118,13 @@ pub record HeaderRead (t : List ℕ) (sizes : Sizes) (inherited synthesized : Li
   pub nonterminals : sizes .nonterminals ≡ byte t 4
   pub start : sizes .start ≡ byte t 5
   pub result : sizes .result ≡ byte t 6
-  pub few : sizes .nonterminals ≤ 48
-  pub tokens : sizes .terminals ≤ 63
+  pub few : sizes .nonterminals ≤ nonterminalsLimit
+  pub tokens : sizes .terminals ≤ terminalsLimit
   pub long : 7 + 5 * sizes .nonterminals ≤ length t
   pub short : length t ≤ tableLimit
   pub small : SmallCounts inherited synthesized (sizes .nonterminals)
-  pub first : length inherited ≡ 48
-  pub second : length synthesized ≡ 48
+  pub first : length inherited ≡ nonterminalsLimit
+  pub second : length synthesized ≡ nonterminalsLimit
 
 -- and after its tag 6 fields, which end at an offset
 pub record Begun (t : List ℕ) (from : ℕ) (sizes : Sizes) (inherited synthesized : List ℕ) : Type 0 where

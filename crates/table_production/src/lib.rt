@@ -2,7 +2,8 @@
 ghost use mathlib.Core.Path.{_≡_};
 ghost use Prim.Native.Nat.{ℕ, _+_, _<_, _≤_};
 ghost use lib.ListN.{length, replicate};
-ghost use Rattle.meaning.specs.Limits.{tableLimit};
+ghost use Rattle.outline.specs.Images.{rowsLength};
+ghost use Rattle.meaning.specs.Limits.{tableLimit, nonterminalsLimit, positionsLimit, productionsLimit};
 ghost use Rattle.meaning.specs.Table.{byte};
 ghost use Rattle.table_counts.specs.Counted.{SmallCounts};
 ghost use Rattle.table_items.specs.Progress.{Next};
@@ -53,7 +54,7 @@ fn judge_body(
     sound: Items,
 ) -> Items
     requires { ⌜ (at + 5 + widthIn (now table) at ≤ sound .at) × SmallBody (now table) at (carrying .0) (now inherited) (now synthesized)
-        × (length (now inherited) ≡ 48) × (length (now synthesized) ≡ 48) × (sound .at ≤ length (now table)) × (sound .rules ≤ sound .at) × (sound .conditions ≤ sound .at) ⌝ }
+        × (length (now inherited) ≡ nonterminalsLimit) × (length (now synthesized) ≡ nonterminalsLimit) × (sound .at ≤ length (now table)) × (sound .rules ≤ sound .at) × (sound .conditions ≤ sound .at) ⌝ }
     ensures read { λ u. ⌜ ((p q : ℕ) → BodyTaken (now (table .entry)) at (carrying .0) (now (inherited .entry)) (now (synthesized .entry)) p q (now (settled .entry)) (sound .at) (sound .rules) (sound .conditions)
         → BodyRead (now (table .entry)) at (carrying .0) (now (inherited .entry)) (now (synthesized .entry)) p q u) ⌝ }
     ensures next { λ u. ⌜ (u .number ≡ 0 → Next (now (table .entry)) (at + 5) u) ⌝ }
@@ -82,7 +83,7 @@ fn read_body(
     settled: &mut [u16; POSITIONS],
 ) -> Items
     requires { ⌜ (before .at + 5 + widthIn (now table) (before .at) ≤ length (now table)) × SmallBody (now table) (before .at) (carrying .0) (now inherited) (now synthesized)
-        × (length (now inherited) ≡ 48) × (length (now synthesized) ≡ 48) × (before .rules ≤ before .at) × (before .conditions ≤ before .at)
+        × (length (now inherited) ≡ nonterminalsLimit) × (length (now synthesized) ≡ nonterminalsLimit) × (before .rules ≤ before .at) × (before .conditions ≤ before .at)
         × WordsPlaced (now table) (before .at) (carrying .0) (now inherited) (now synthesized) (now inputs) (now settled) ⌝ }
     ensures read { λ u. ⌜ BodyRead (now (table .entry)) (before .at) (carrying .0) (now (inherited .entry)) (now (synthesized .entry)) (before .rules) (before .conditions) u ⌝ }
     ensures next { λ u. ⌜ (u .number ≡ 0 → Next (now (table .entry)) (before .at + 5) u) ⌝ }
@@ -130,7 +131,7 @@ fn read_field(
     settled: &mut [u16; POSITIONS],
 ) -> Field
     requires { ⌜ (at < length (now table)) × (0 < p → byte (now table) at ≡ 3) × (byte (now table) at ≡ 6 → ⊥) × SmallCounts (now inherited) (now synthesized) (sizes .nonterminals)
-        × (sizes .nonterminals ≤ 48) × (length (now rows) ≡ 2048) × (now inputs ≡ replicate 13 0) × (now settled ≡ replicate 13 65535) ⌝ }
+        × (sizes .nonterminals ≤ nonterminalsLimit) × (length (now rows) ≡ rowsLength) × (now inputs ≡ replicate positionsLimit 0) × (now settled ≡ replicate positionsLimit 65535) ⌝ }
     ensures { λ f. ⌜ FieldRead (now (table .entry)) at p (sizes .terminals) (sizes .nonterminals) (sizes .carrying .0) (now (inherited .entry)) (now (synthesized .entry))
         (now (rows .entry)) (now (rows .exit)) (now (inputs .exit)) (now (settled .exit)) (f .number) (f .word .0) ⌝ }
 {
@@ -175,12 +176,12 @@ pub fn read_production(
     words: &mut [u64; PRODUCTIONS],
 ) -> Items
     requires { ⌜ (before .at < length (now table)) × (length (now table) ≤ tableLimit) × (0 < p → byte (now table) (before .at) ≡ 3) × (byte (now table) (before .at) ≡ 6 → ⊥)
-        × SmallCounts (now inh) (now syn) (sizes .nonterminals) × (length (now inh) ≡ 48) × (length (now syn) ≡ 48)
-        × (length (now rows) ≡ 2048) × (length (now offsets) ≡ 128) × (before .rules ≤ before .at) × (before .conditions ≤ before .at) × (length (now words) ≡ 128)
-        × (sizes .nonterminals ≤ 48) ⌝ }
+        × SmallCounts (now inh) (now syn) (sizes .nonterminals) × (length (now inh) ≡ nonterminalsLimit) × (length (now syn) ≡ nonterminalsLimit)
+        × (length (now rows) ≡ rowsLength) × (length (now offsets) ≡ productionsLimit) × (before .rules ≤ before .at) × (before .conditions ≤ before .at) × (length (now words) ≡ productionsLimit)
+        × (sizes .nonterminals ≤ nonterminalsLimit) ⌝ }
     ensures read { λ u. ⌜ ProductionRead (now (table .entry)) (before .at) p (sizes .terminals) (sizes .nonterminals) (sizes .carrying .0) (now (inh .entry)) (now (syn .entry))
         (now (rows .entry)) (now (offsets .entry)) (before .rules) (before .conditions) (now (rows .exit)) (now (offsets .exit)) u ⌝ }
-    ensures kept { λ u. ⌜ length (now (words .exit)) ≡ 128 ⌝ }
+    ensures kept { λ u. ⌜ length (now (words .exit)) ≡ productionsLimit ⌝ }
     ensures words { λ u. ⌜ (u .number ≡ 0 → RightsTo (now (rows .entry)) p (now (words .entry)) → RightsTo (now (rows .exit)) (p + 1) (now (words .exit))) ⌝ }
 {
     let at = before.at;

@@ -4,6 +4,7 @@ use native.Mathlib.Omega.{arith}
 use mathlib.Core.Path.{_≡_, sym, ap, _∙_, subst}
 use mathlib.Core.List.{List, reverse}
 use lib.ListN.{getD, length, length-map, length-reverse}
+use Rattle.meaning.specs.Limits.{symbolsLimit}
 use Rattle.meaning.specs.Grammar.{Grammar, noCounts, nonterminal, inh, syn, productionAt, nonterminalCount}
 use Rattle.meaning.specs.Judgement.{entryOffset}
 use Rattle.meaning.specs.Table.{State, Entry, noEntry, wellFormed, readTable, productionOf, grammarOf}
@@ -56,7 +57,7 @@ module _ (t : List ℕ) (from : ℕ) (sizes : Sizes) (inherited synthesized rows
       room : rowStart p ≤ length rows
       room = omega (arith, w .few, w .kept)
 
-      short : (i : ℕ) → i < p → sizeAt rows i ≤ 12
+      short : (i : ℕ) → i < p → sizeAt rows i ≤ symbolsLimit
       short i l = omega (arith, row i l .size, row i l .short)
 
       right : (i : ℕ) → i < p → rightAt rows i ≡ productionAt g i .right

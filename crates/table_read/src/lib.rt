@@ -2,7 +2,8 @@
 ghost use mathlib.Core.Path.{_≡_};
 ghost use Prim.Native.Nat.{_+_, _*_, _≤_};
 ghost use lib.ListN.{length};
-ghost use Rattle.meaning.specs.Limits.{tableLimit};
+ghost use Rattle.outline.specs.Images.{rowsLength};
+ghost use Rattle.meaning.specs.Limits.{tableLimit, nonterminalsLimit, productionsLimit};
 ghost use Rattle.meaning.specs.Table.{byte, readTable};
 ghost use Rattle.table_fields.specs.Field.{rest};
 ghost use Rattle.table_counts.specs.Counted.{counted};
@@ -51,7 +52,7 @@ fn read_productions(
     offsets: &mut [u32; PRODUCTIONS],
     words: &mut [u64; PRODUCTIONS],
 ) -> Reading
-    requires { ⌜ Begun (now table) from sizes (now inherited) (now synthesized) × (length (now rows) ≡ 2048) × (length (now offsets) ≡ 128) × (length (now words) ≡ 128) ⌝ }
+    requires { ⌜ Begun (now table) from sizes (now inherited) (now synthesized) × (length (now rows) ≡ rowsLength) × (length (now offsets) ≡ productionsLimit) × (length (now words) ≡ productionsLimit) ⌝ }
     ensures { λ r. ⌜ AnswersFrom (now (table .entry)) from sizes r (now (inherited .entry)) (now (synthesized .entry)) (now (rows .exit)) (now (offsets .exit)) × Worded r (now (rows .exit)) (now (words .exit)) ⌝ }
 {
     let mut done = none_read(from);
@@ -91,7 +92,7 @@ fn read_after_counts(
     offsets: &mut [u32; PRODUCTIONS],
     words: &mut [u64; PRODUCTIONS],
 ) -> Reading
-    requires { ⌜ HeaderRead (now table) sizes (now inherited) (now synthesized) × (length (now rows) ≡ 2048) × (length (now offsets) ≡ 128) × (length (now words) ≡ 128) ⌝ }
+    requires { ⌜ HeaderRead (now table) sizes (now inherited) (now synthesized) × (length (now rows) ≡ rowsLength) × (length (now offsets) ≡ productionsLimit) × (length (now words) ≡ productionsLimit) ⌝ }
     ensures read { λ r. ⌜ Answers r (now (inherited .entry)) (now (synthesized .entry)) (now (rows .exit)) (now (offsets .exit)) (rest (now (table .entry)) (counted (now (table .entry)) (now (inherited .entry)) (now (synthesized .entry)) (sizes .nonterminals)) (7 + 5 * sizes .nonterminals)) ⌝ }
     ensures words { λ r. ⌜ Worded r (now (rows .exit)) (now (words .exit)) ⌝ }
 {
@@ -151,7 +152,7 @@ pub fn read_table(
     offsets: &mut [u32; PRODUCTIONS],
     words: &mut [u64; PRODUCTIONS],
 ) -> Reading
-    requires { ⌜ (length (now inherited) ≡ 48) × (length (now synthesized) ≡ 48) × (length (now rows) ≡ 2048) × (length (now offsets) ≡ 128) × (length (now words) ≡ 128) ⌝ }
+    requires { ⌜ (length (now inherited) ≡ nonterminalsLimit) × (length (now synthesized) ≡ nonterminalsLimit) × (length (now rows) ≡ rowsLength) × (length (now offsets) ≡ productionsLimit) × (length (now words) ≡ productionsLimit) ⌝ }
     ensures read { λ r. ⌜ Answers r (now (inherited .exit)) (now (synthesized .exit)) (now (rows .exit)) (now (offsets .exit)) (readTable (now (table .entry))) ⌝ }
     ensures words { λ r. ⌜ Worded r (now (rows .exit)) (now (words .exit)) ⌝ }
 {

@@ -10,10 +10,11 @@ use native.Mathlib.Numerals.{add-one}
 use lib.Dec.{T}
 use lib.ListN.{length, getD, set, drop, length-set, drop-of-length-le}
 use lib.Seq.{getD-set-same, getD-set-other, drop-cons}
+use Rattle.meaning.specs.Limits.{positionsLimit, productionsLimit}
 use Rattle.meaning.specs.Base.{any}
-use Rattle.meaning.specs.Grammar.{Symbol}
+use Rattle.meaning.specs.Grammar.{Symbol, nonterminalBase}
 use Rattle.meaning.specs.Table.{byte, symbolOf}
-use Rattle.outline.specs.Images.{rowStart}
+use Rattle.outline.specs.Images.{rowStart, rowsLength}
 use Rattle.set_words.specs.Views.{members, symbolBit}
 use Rattle.set_words.specs.Reaching.{Gathered}
 use Rattle.table_rows.specs.RowWritten.{symbolByte, Copied}
@@ -22,9 +23,9 @@ use Rattle.table_fields.proofs.Cases.{lt-or-le}
 -- the counts of positions below k are written, where f gives the count of a symbol's byte
 pub record Placing (f : ℕ → ℕ) (b places : List ℕ) (k : ℕ) : Type 0 where
   pub each : (j : ℕ) → j < k → getD places j 0 ≡ f (symbolByte b j)
-  pub kept : length places ≡ 13
+  pub kept : length places ≡ positionsLimit
 
-pub placing-start : (f : ℕ → ℕ) (b places : List ℕ) (x : ℕ) → length places ≡ 13 → x ≡ f (128 + byte b 0) → Placing f b (set places 0 x) 1
+pub placing-start : (f : ℕ → ℕ) (b places : List ℕ) (x : ℕ) → length places ≡ positionsLimit → x ≡ f (nonterminalBase + byte b 0) → Placing f b (set places 0 x) 1
 placing-start f b places x l e = record { each = first; kept = length-set places 0 x ∙ l }
   where
     first : (j : ℕ) → j < 1 → getD (set places 0 x) j 0 ≡ f (symbolByte b j)
@@ -46,18 +47,18 @@ module _ (f : ℕ → ℕ) (b places : List ℕ) (k : ℕ) (p : Placing f b plac
       ap (λ (i : ℕ). getD now i 0) q ∙ e ∙ ap f (symbol-byte b k one ∙ ap (symbolByte b) (sym q)))
       (lt-or-le j k)
 
-  pub placing-more : (x : ℕ) → k < 13 → x ≡ f (byte b (k + 1)) → Placing f b (set places k x) (k + 1)
+  pub placing-more : (x : ℕ) → k < positionsLimit → x ≡ f (byte b (k + 1)) → Placing f b (set places k x) (k + 1)
   placing-more x room e =
       record {
         each = next-each (set places k x) (getD-set-same places k x 0 (omega (arith, p .kept)) ∙ e) (λ j l. getD-set-other places k j x 0 (λ q. omega arith));
         kept = length-set places k x ∙ p .kept;
       }
 
-pub copying-start : (rows : List ℕ) (p : ℕ) (b : List ℕ) → length rows ≡ 2048 → Copied rows p b rows 0
+pub copying-start : (rows : List ℕ) (p : ℕ) (b : List ℕ) → length rows ≡ rowsLength → Copied rows p b rows 0
 copying-start rows p b l = record { before = λ i h. refl; row = λ j h. absurd (not-suc-le-zero h); kept = l }
 
 pub copying-more :
-    (rows₀ : List ℕ) (p : ℕ) (b rows : List ℕ) (k : ℕ) → Copied rows₀ p b rows k → rowStart p + k < 2048
+    (rows₀ : List ℕ) (p : ℕ) (b rows : List ℕ) (k : ℕ) → Copied rows₀ p b rows k → rowStart p + k < rowsLength
     → Copied rows₀ p b (set rows (rowStart p + k) (byte b k)) (k + 1)
 copying-more rows₀ p b rows k c room =
     record {
@@ -78,12 +79,12 @@ copying-more rows₀ p b rows k c room =
 
 -- the same where the row's place is another number's name
 pub copying-at :
-    (rows₀ : List ℕ) (p : ℕ) (b rows : List ℕ) (k start : ℕ) → start ≡ rowStart p → Copied rows₀ p b rows k → rowStart p + k < 2048
+    (rows₀ : List ℕ) (p : ℕ) (b rows : List ℕ) (k start : ℕ) → start ≡ rowStart p → Copied rows₀ p b rows k → rowStart p + k < rowsLength
     → Copied rows₀ p b (set rows (start + k) (byte b k)) (k + 1)
 copying-at rows₀ p b rows k start e c room = rw e (copying-more rows₀ p b rows k c room)
 
 -- its first two bytes, which are no symbols
-pub copying-two : (rows : List ℕ) (p : ℕ) (b : List ℕ) → length rows ≡ 2048 → p < 128 → Copied rows p b (set (set rows (rowStart p) (byte b 0)) (rowStart p + 1) (byte b 1)) 2
+pub copying-two : (rows : List ℕ) (p : ℕ) (b : List ℕ) → length rows ≡ rowsLength → p < productionsLimit → Copied rows p b (set (set rows (rowStart p) (byte b 0)) (rowStart p + 1) (byte b 1)) 2
 copying-two rows p b l h =
     let e : rowStart p + 0 ≡ rowStart p = omega arith in
     copying-more rows p b (set rows (rowStart p) (byte b 0)) 1

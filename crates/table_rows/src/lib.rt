@@ -2,6 +2,7 @@
 ghost use mathlib.Core.Path.{_≡_};
 ghost use Prim.Native.Nat.{_≤_};
 ghost use lib.ListN.{length};
+ghost use Rattle.meaning.specs.Limits.{nonterminalsLimit, positionsLimit};
 ghost use Rattle.outline.specs.Counts.{countAt, synthesizedAt};
 ghost use Rattle.table_rows.specs.RowWritten.{Written};
 use limits::NONTERMINALS;
@@ -17,7 +18,7 @@ pub fn place_counts(
     inh: &mut [u8; POSITIONS],
     syn: &mut [u8; POSITIONS],
 )
-    requires { ⌜ (2 ≤ length (now body)) × (length (now body) ≤ 14) × (length (now inherited) ≡ 48) × (length (now synthesized) ≡ 48) × (length (now inh) ≡ 13) × (length (now syn) ≡ 13) ⌝ }
+    requires { ⌜ (2 ≤ length (now body)) × (length (now body) ≤ 14) × (length (now inherited) ≡ nonterminalsLimit) × (length (now synthesized) ≡ nonterminalsLimit) × (length (now inh) ≡ positionsLimit) × (length (now syn) ≡ positionsLimit) ⌝ }
     ensures inherits { λ r. ⌜ Written (countAt (now (inherited .entry))) (now (body .entry)) (now (inh .exit)) ⌝ }
     ensures synthesizes { λ r. ⌜ Written (synthesizedAt (carrying .0) (now (synthesized .entry))) (now (body .entry)) (now (syn .exit)) ⌝ }
 {

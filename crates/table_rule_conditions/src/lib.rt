@@ -1,6 +1,7 @@
 // The faults of a condition.
 ghost use mathlib.Core.Path.{_≡_};
 ghost use Prim.Native.Nat.{_<_, _≤_};
+ghost use Rattle.meaning.specs.Limits.{symbolsLimit};
 ghost use Rattle.table_rules.specs.Rule.{inOrder, rangeFault, atMostFault, conditionFault};
 use limits::CONDITIONS;
 use limits::POSITIONS;
@@ -14,7 +15,7 @@ pub fn in_order(x: usize, y: usize) -> bool
 }
 
 pub fn range_fault(width: usize, inh: &[u8; POSITIONS], syn: &[u8; POSITIONS], body: &[u8]) -> u8
-    requires { ⌜ width ≤ 12 ⌝ }
+    requires { ⌜ width ≤ symbolsLimit ⌝ }
     ensures { λ r. ⌜ r ≡ rangeFault width (now (inh .entry)) (now (syn .entry)) (now (body .entry)) ⌝ }
 {
     if body.len() != 11 {
@@ -43,7 +44,7 @@ pub fn at_most_fault(
     syn: &[u8; POSITIONS],
     body: &[u8],
 ) -> u8
-    requires { ⌜ (5 ≤ size) × (width ≤ 12) ⌝ }
+    requires { ⌜ (5 ≤ size) × (width ≤ symbolsLimit) ⌝ }
     ensures { λ r. ⌜ r ≡ atMostFault size width (now (inh .entry)) (now (syn .entry)) (now (body .entry)) ⌝ }
 {
     if body.len() != size {
@@ -74,7 +75,7 @@ pub fn condition_fault(
     syn: &[u8; POSITIONS],
     body: &[u8],
 ) -> u8
-    requires { ⌜ width ≤ 12 ⌝ }
+    requires { ⌜ width ≤ symbolsLimit ⌝ }
     ensures { λ r. ⌜ r ≡ conditionFault c width (now (inh .entry)) (now (syn .entry)) (now (body .entry)) ⌝ }
 {
     if body.len() < 1 {

@@ -9,7 +9,7 @@ use lib.IntN.{pos}
 use lib.Signed.{leZ}
 use lib.ListN.{getD, length, take}
 use borrow.Author.Tests.{leb-true, leb-false, le-ltb, lt-ltb, eqb-false, ne-eqb}
-use Rattle.meaning.specs.Limits.{rulesLimit}
+use Rattle.meaning.specs.Limits.{rulesLimit, attributesLimit, divisorLimit}
 use Rattle.meaning.specs.Base.{all}
 use Rattle.meaning.specs.Grammar.{Symbol, Occurrence, Function, const, functionsOf, Rule, Condition, Counts}
 use Rattle.meaning.specs.Table.{byte, constantAt, State, Entry, Header, rule, occurrenceAt, occurrenceKnown, isInput, hasRule, functionOf, operands, ruleLength, lowestOf, judgeField, tagStands, stage, atAny}
@@ -103,14 +103,14 @@ far-by false q v w kt ko l = refl
 far-by true false v w kt ko l = refl
 far-by true true v w kt ko l = refl
 
-divisor-in : (b : List ℕ) (x : Bool) → not x || (leZ (pos 1) (constantAt b 5) && leZ (constantAt b 5) (pos 1000000)) ≡ cond x (cond (ltb (fourAt b 5) 1) false (leb (fourAt b 5) 1000000)) true
+divisor-in : (b : List ℕ) (x : Bool) → not x || (leZ (pos 1) (constantAt b 5) && leZ (constantAt b 5) (pos divisorLimit)) ≡ cond x (cond (ltb (fourAt b 5) 1) false (leb (fourAt b 5) divisorLimit)) true
 unfolding fourAt
 divisor-in b false = refl
 divisor-in b true = divisor-same (fourAt b 5) ∙ go (leb 1 (fourAt b 5)) refl
   where
-    go : (y : Bool) → leb 1 (fourAt b 5) ≡ y → y && leb (fourAt b 5) 1000000 ≡ cond (ltb (fourAt b 5) 1) false (leb (fourAt b 5) 1000000)
-    go true e = ap (λ z. cond z false (leb (fourAt b 5) 1000000)) (sym (le-ltb (fourAt b 5) 1 (leb-true 1 (fourAt b 5) e)))
-    go false e = ap (λ z. cond z false (leb (fourAt b 5) 1000000)) (sym (lt-ltb (fourAt b 5) 1 (leb-false 1 (fourAt b 5) e)))
+    go : (y : Bool) → leb 1 (fourAt b 5) ≡ y → y && leb (fourAt b 5) divisorLimit ≡ cond (ltb (fourAt b 5) 1) false (leb (fourAt b 5) divisorLimit)
+    go true e = ap (λ z. cond z false (leb (fourAt b 5) divisorLimit)) (sym (le-ltb (fourAt b 5) 1 (leb-true 1 (fourAt b 5) e)))
+    go false e = ap (λ z. cond z false (leb (fourAt b 5) divisorLimit)) (sym (lt-ltb (fourAt b 5) 1 (leb-false 1 (fourAt b 5) e)))
 
 place-same : (x : Bool) (m t : ℕ) → eqb t 0 ≡ false → cond x (ltb m t) true ≡ ltb (cond x m 0) t
 place-same true m t e = refl
@@ -154,7 +154,7 @@ module _ (h : Header) (cs : List Counts) (os ws : List ℕ) (es : List Entry) (r
   noted-same k =
       let p : byte b 0 ≤ width = class-inside width inh syn (byte b 0) (byte b 1) k in
       let q : 1 ≤ byte b 1 = class-first width inh syn (byte b 0) (byte b 1) k in
-      let u : byte b 1 ≤ 8 = omega (arith, class-last width inh syn (byte b 0) (byte b 1) k, small .1 (byte b 0) p) in
+      let u : byte b 1 ≤ attributesLimit = omega (arith, class-last width inh syn (byte b 0) (byte b 1) k, small .1 (byte b 0) p) in
       let one : byte b 1 ≡ suc (byte b 1 - 1) = omega arith in
       ap (λ (a : ℕ). isSet rs (occurrence (byte b 0) a)) one ∙ sym (notes-bit note rs nt (byte b 0) (byte b 1 - 1) (omega (arith, small .0)) (omega arith))
 
@@ -189,7 +189,7 @@ module _ (h : Header) (cs : List Counts) (os ws : List ℕ) (es : List Entry) (r
       ∷ []
 
   abbrev divisor : Bool
-  divisor = leZ (pos 1) (constantAt b 5) && leZ (constantAt b 5) (pos 1000000)
+  divisor = leZ (pos 1) (constantAt b 5) && leZ (constantAt b 5) (pos divisorLimit)
 
   abbrev whole : Bool → Bool → Bool → ℕ
   whole x y u =

@@ -6,6 +6,7 @@ use mathlib.Core.List.{List}
 use native.Mathlib.Omega.{arith}
 use lib.Dec.{eqb, ltb}
 use lib.ListN.{getD}
+use Rattle.meaning.specs.Limits.{attributesLimit, positionsLimit}
 use Rattle.meaning.specs.Table.{byte}
 use Rattle.table_fields.specs.Demand.{ifEqual, ifBelow, differs}
 use Rattle.table_fields.proofs.Demands.{lacks-met, below-met, equal-yes, equal-no, below-yes, below-no}
@@ -49,7 +50,7 @@ module _ (width : ℕ) (inh syn : List ℕ) (p a : ℕ) (inside : p ≤ width) w
   input-right n l m = below-no _ _ _ _ inside (below-no _ _ _ _ (omega arith) (below-no _ _ _ _ m (equal-no _ _ _ _ n (below-yes _ _ _ _ l refl))))
 
 -- where an output can be
-pub output-near : (width : ℕ) (inh syn : List ℕ) (p a : ℕ) → Small width inh syn → 2 ≡ classAt width inh syn p a → (p < 13) × (p ≤ width) × (1 ≤ a) × (a ≤ 8)
+pub output-near : (width : ℕ) (inh syn : List ℕ) (p a : ℕ) → Small width inh syn → 2 ≡ classAt width inh syn p a → (p < positionsLimit) × (p ≤ width) × (1 ≤ a) × (a ≤ attributesLimit)
 output-near width inh syn p a small e =
     let known : classAt width inh syn p a ≡ 0 → ⊥ = λ q. nonzero 1 (e ∙ q) in
     let inside : p ≤ width = class-inside width inh syn p a known in

@@ -4,6 +4,7 @@ ghost use mathlib.Core.Bool.{true};
 ghost use mathlib.Core.List.{List};
 ghost use Prim.Native.Nat.{ℕ, _+_, _*_, _<_, _≤_};
 ghost use lib.ListN.{length};
+ghost use Rattle.meaning.specs.Limits.{positionsLimit, symbolsLimit};
 ghost use Rattle.meaning.specs.Grammar.{Rule, Occurrence};
 ghost use Rattle.meaning.specs.Table.{byte};
 ghost use Rattle.table_rules.specs.Rule.{Small, classAt, classIn, lengthOf, operandCount, OperandsFit, divisorFits, ruleItems, ruleFault};
@@ -66,7 +67,7 @@ fn is_output(
     position: usize,
     attribute: usize,
 ) -> bool
-    requires { ⌜ width ≤ 12 ⌝ }
+    requires { ⌜ width ≤ symbolsLimit ⌝ }
     ensures { λ r. ⌜ (r ≡ true → 2 ≡ classAt width (now (inh .entry)) (now (syn .entry)) position attribute) ⌝ }
 {
     if width < position {
@@ -93,7 +94,7 @@ fn is_operand(
     body: &[u8],
     at: usize,
 ) -> bool
-    requires { ⌜ (limit ≤ 13) × (at + 2 ≤ length (now body)) ⌝ }
+    requires { ⌜ (limit ≤ positionsLimit) × (at + 2 ≤ length (now body)) ⌝ }
     ensures { λ r. ⌜ ((width : ℕ) → limit ≤ width + 1 → r ≡ true → (1 ≡ classIn width (now (inh .entry)) (now (syn .entry)) (now (body .entry)) at) × (byte (now (body .entry)) at < limit)) ⌝ }
 {
     let position = table_fields::wide(body[at]);
@@ -122,7 +123,7 @@ fn are_operands(
     body: &[u8],
     n: usize,
 ) -> bool
-    requires { ⌜ (1 ≤ limit) × (limit ≤ 13) × (3 + 2 * n ≤ length (now body)) ⌝ }
+    requires { ⌜ (1 ≤ limit) × (limit ≤ positionsLimit) × (3 + 2 * n ≤ length (now body)) ⌝ }
     ensures { λ r. ⌜ ((width : ℕ) → limit ≤ width + 1 → r ≡ true → OperandsFit limit width (now (inh .entry)) (now (syn .entry)) (now (body .entry)) n) ⌝ }
 {
     if n == 0 {

@@ -6,19 +6,12 @@ use native.Mathlib.Omega.{arith}
 use native.Mathlib.Nat.{mod-one, mod-lt, div-one, div-eq-of-lt, zero-lt-suc, pow-suc, one-mul, mod-eq-of-lt}
 use lib.Dec.{eqb}
 use lib.Arith.{mod-mul}
-use lib.Bits.{bitAnd, bitOr, and-shr, and-step}
+use lib.Bits.{bitAnd, bitOr, and-shr}
 use lib.Pow.{pow-pos, pow-lt, shr-shr}
 use borrow.Author.Tests.{eq-eqb, ne-eqb, eqb-true, eqb-false}
-use Rattle.theory_bits.specs.Bits.{or-at, half-at, pow-same, pow-other}
+use Rattle.theory_bits.specs.Bits.{or-at, half-at, pow-same, pow-other, and-low}
 use Rattle.table_rules.specs.Rule.{bit, ones}
-
--- two tests that mean the same
-eqb-iff : (a b a′ b′ : ℕ) → (a ≡ b → a′ ≡ b′) → (a′ ≡ b′ → a ≡ b) → eqb a b ≡ eqb a′ b′
-eqb-iff a b a′ b′ f g = go (eqb a b) refl
-  where
-    go : (t : Bool) → eqb a b ≡ t → t ≡ eqb a′ b′
-    go true e = sym (eq-eqb a′ b′ (f (eqb-true a b e)))
-    go false e = sym (ne-eqb a′ b′ (λ q. eqb-false a b e (g q)))
+use Rattle.theory_base.specs.Members.{eqb-both}
 
 -- ---- the lowest bits: (n + 1) % 2 ^ d is 0
 
@@ -37,7 +30,7 @@ ones-tested (suc d) n = go (n % 2) refl (ones-tested d (n / 2))
     go (suc r) e ih =
         let h : (n + 1) / 2 ≡ n / 2 + 1 = omega arith in
         let k : (n + 1) % 2 ^ suc d ≡ (n / 2 + 1) % 2 ^ d * 2 + (n + 1) % 2 = half-up n d ∙ ap (λ (x : ℕ). x % 2 ^ d * 2 + (n + 1) % 2) h in
-        eqb-iff ((n + 1) % 2 ^ suc d) 0 ((n / 2 + 1) % 2 ^ d) 0 (λ z. omega arith) (λ z. omega arith)
+        eqb-both ((n + 1) % 2 ^ suc d) 0 ((n / 2 + 1) % 2 ^ d) 0 (λ z. omega arith) (λ z. omega arith)
         ∙ ih ∙ sym (ap (λ (x : Bool). x && ones (n / 2) d) (eq-eqb (n % 2) 1 (omega arith)))
 
 -- 1 << t within a width
@@ -82,9 +75,6 @@ unfolding bit
 bit-shifted n i t = ap (λ (x : ℕ). eqb (x % 2) 1) (shr-shr n i t)
 
 -- ---- the bits that two numbers have
-
-and-low : (a b : ℕ) → bitAnd a b % 2 ≡ min (a % 2) (b % 2)
-and-low a b = let e = and-step a b in omega (arith, mod-lt a (zero-lt-suc 1), mod-lt b (zero-lt-suc 1))
 
 least-one : (x y : ℕ) → x < 2 → y < 2 → eqb (min x y) 1 ≡ eqb x 1 && eqb y 1
 least-one x y l m = go (eqb x 1) (eqb y 1) refl refl

@@ -1,19 +1,20 @@
 -- The note against 01: every output noted.
 use Prim.Native.Nat.{ℕ, zero, suc, _+_, _/_, _^_, _≤_, _<_}
 use mathlib.Core.Path.{_≡_, refl, sym, _∙_, ap, ap₂}
-use mathlib.Core.Bool.{Bool, true, false, _&&_, _||_, not, cond, and-true}
-use mathlib.Core.List.{List, [], _∷_, map}
+use mathlib.Core.Bool.{Bool, true, false, _&&_, _||_, not, cond, and-true, and-assoc}
+use mathlib.Core.List.{List}
 use native.Mathlib.Omega.{arith}
 use lib.Dec.{eqb, leb}
 use lib.ListN.{getD, length}
 use borrow.Author.Tests.{le-leb, lt-leb}
+use Rattle.meaning.specs.Limits.{attributesLimit}
 use Rattle.meaning.specs.Base.{all, countFrom}
 use Rattle.meaning.specs.Grammar.{Symbol, Occurrence, Rule, Condition, Counts}
 use Rattle.meaning.specs.Table.{State, Entry, Header, isInput, hasRule, complete, entrySymbol, countsAt, occurrencesAt}
 use Rattle.table_fields.specs.Demand.{ifEqual}
 use Rattle.table_rules.specs.Rule.{Small, bit, ones, filledAt, settled, allCount, completeNote}
 use Rattle.table_rules.specs.Note.{Placed, Notes, occurrence, isSet}
-use Rattle.theory_base.specs.Members.{counted-all}
+use Rattle.theory_base.specs.Members.{counted-all, all-mapped}
 use Rattle.table_rule_note.proofs.Bits.{bit-suc, bit-first, bit-shifted}
 use Rattle.table_rule_note.proofs.Noting.{notes-bit}
 use Rattle.table_rules.proofs.ClassDemands.{entry, state, inherited-in, synthesized-in}
@@ -25,10 +26,6 @@ module _ (f g : ℕ → Bool) where
   count-same j zero h = refl
   count-same j (suc n) h = ap₂ _&&_ (h j (omega arith) (omega arith)) (count-same (suc j) n (λ i p q. h i (omega arith) (omega arith)))
 
-and-assoc : (x y z : Bool) → x && (y && z) ≡ (x && y) && z
-and-assoc true y z = refl
-and-assoc false y z = refl
-
 count-split : (f : ℕ → Bool) (j m n : ℕ) → all f (countFrom j (m + n)) ≡ all f (countFrom j m) && all f (countFrom (j + m) n)
 count-split f j zero n =
     let e : j ≡ j + 0 = omega arith in
@@ -39,7 +36,7 @@ count-split f j (suc m) n =
     let d : suc j + m ≡ j + suc m = omega arith in
     ap (λ (x : ℕ). all f (countFrom j x)) e
     ∙ ap (λ x. f j && x) (count-split f (suc j) m n)
-    ∙ and-assoc (f j) (all f (countFrom (suc j) m)) (all f (countFrom (suc j + m) n))
+    ∙ sym (and-assoc (f j) (all f (countFrom (suc j) m)) (all f (countFrom (suc j + m) n)))
     ∙ ap (λ (x : ℕ). (f j && all f (countFrom (suc j) m)) && all f (countFrom x n)) d
 
 count-shift : (f : ℕ → Bool) (d j n : ℕ) → all f (countFrom (d + j) n) ≡ all (λ i. f (d + i)) (countFrom j n)
@@ -56,10 +53,6 @@ ones-bits (suc d) n =
     (count-shift (λ i. bit n i) 1 0 d
     ∙ count-same (λ i. bit n (1 + i)) (λ i. bit (n / 2) i) 0 d (λ i p q. ap (λ (x : ℕ). bit n x) {x = 1 + i} {y = suc i} (omega arith) ∙ bit-suc n i)
     ∙ ones-bits d (n / 2))
-
-pub all-mapped : {A B : Type 0} (f : B → Bool) (g : A → B) (l : List A) → all f (map g l) ≡ all (λ x. f (g x)) l
-all-mapped f g [] = refl
-all-mapped f g (x ∷ l) = ap (λ y. f (g x) && y) (all-mapped f g l)
 
 -- ---- every output of a production is noted
 
@@ -84,7 +77,7 @@ module _ (h : Header) (cs : List Counts) (os ws : List ℕ) (es : List Entry) (r
     abbrev test : Bool → ℕ → ℕ → Bool
     test z u a = cond z (leb a u) (not (leb a u)) || isSet rs (occurrence k a)
 
-    bit-is : (a : ℕ) → a < 8 → isSet rs (occurrence k (suc a)) ≡ bit n a
+    bit-is : (a : ℕ) → a < attributesLimit → isSet rs (occurrence k (suc a)) ≡ bit n a
     bit-is a q = sym (notes-bit note rs nt k a (omega (arith, small .0)) q)
 
     left-inputs : all (test true i) (countFrom 1 i) ≡ true

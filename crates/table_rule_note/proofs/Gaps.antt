@@ -13,8 +13,8 @@ use Rattle.meaning.specs.Table.{State, Entry, noHeader, isInput, hasRule, compl
 use Rattle.table_rules.specs.Rule.{Small, completeNote}
 use Rattle.table_rules.specs.Note.{occurrence, Gap, GapAnswered, GapsAnswered}
 use Rattle.table_rules.proofs.Laws.{ap3}
-use Rattle.theory_base.specs.Members.{all-counted}
-use Rattle.table_rule_note.proofs.Complete.{all-mapped, complete-judged}
+use Rattle.theory_base.specs.Members.{all-counted, all-mapped}
+use Rattle.table_rule_note.proofs.Complete.{complete-judged}
 
 -- ---- a test on numbers in a row
 

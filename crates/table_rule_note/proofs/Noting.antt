@@ -11,6 +11,7 @@ use lib.Dec.{eqb, leb, ltb}
 use lib.ListN.{getD, length, set, replicate, length-set, length-replicate}
 use lib.Seq.{getD-set-same, getD-set-other}
 use borrow.Author.Tests.{le-leb, lt-ltb, leb-true, ltb-true, eq-eqb, ne-eqb, eqb-true}
+use Rattle.meaning.specs.Limits.{attributesLimit, positionsLimit}
 use Rattle.meaning.specs.Grammar.{Occurrence, Rule}
 use Rattle.meaning.specs.Table.{byte, ruleOf, sameOccurrence}
 use Rattle.table_fields.specs.Demand.{ifEqual}
@@ -19,22 +20,23 @@ use Rattle.table_rules.specs.Rule.{Small, bit, ruleFault}
 use Rattle.table_rules.specs.Note.{occurrence, isSet, isNoted, Notes, rulesAfter}
 use Rattle.table_rule_note.proofs.Bits.{bit-set, bit-zero}
 use Rattle.table_rules.proofs.Laws.{ap3, rule-fine}
+use Rattle.theory_base.specs.Members.{replicate-at}
 
 -- ---- occurrences that a note has room for
 
 pub record Near (o : Occurrence) : Type 0 where
-  pub place : o .position < 13
+  pub place : o .position < positionsLimit
   pub first : 1 ≤ o .attribute
-  pub last : o .attribute ≤ 8
+  pub last : o .attribute ≤ attributesLimit
 
 near-or-not : (o : Occurrence) → Near o ⊎ (Near o → ⊥)
-near-or-not o = go (ltb (o .position) 13) (leb 1 (o .attribute)) (leb (o .attribute) 8) refl refl refl
+near-or-not o = go (ltb (o .position) positionsLimit) (leb 1 (o .attribute)) (leb (o .attribute) attributesLimit) refl refl refl
   where
-    go : (x y z : Bool) → ltb (o .position) 13 ≡ x → leb 1 (o .attribute) ≡ y → leb (o .attribute) 8 ≡ z → Near o ⊎ (Near o → ⊥)
-    go true true true e f g = inl (record { place = ltb-true (o .position) 13 e; first = leb-true 1 (o .attribute) f; last = leb-true (o .attribute) 8 g })
-    go false y z e f g = inr (λ n. absurd (true≢false (sym (lt-ltb (o .position) 13 (n .place)) ∙ e)))
+    go : (x y z : Bool) → ltb (o .position) positionsLimit ≡ x → leb 1 (o .attribute) ≡ y → leb (o .attribute) attributesLimit ≡ z → Near o ⊎ (Near o → ⊥)
+    go true true true e f g = inl (record { place = ltb-true (o .position) positionsLimit e; first = leb-true 1 (o .attribute) f; last = leb-true (o .attribute) attributesLimit g })
+    go false y z e f g = inr (λ n. absurd (true≢false (sym (lt-ltb (o .position) positionsLimit (n .place)) ∙ e)))
     go true false z e f g = inr (λ n. absurd (true≢false (sym (le-leb 1 (o .attribute) (n .first)) ∙ f)))
-    go true true false e f g = inr (λ n. absurd (true≢false (sym (le-leb (o .attribute) 8 (n .last)) ∙ g)))
+    go true true false e f g = inr (λ n. absurd (true≢false (sym (le-leb (o .attribute) attributesLimit (n .last)) ∙ g)))
 
 module _ (note : List ℕ) (o : Occurrence) where
   pub noted-near : Near o → isNoted note o ≡ bit (getD note (o .position) 0) (o .attribute - 1)
@@ -42,17 +44,17 @@ module _ (note : List ℕ) (o : Occurrence) where
   noted-near n =
       ap3
       (λ x y z. x && (y && z) && bit (getD note (o .position) 0) (o .attribute - 1))
-      (lt-ltb (o .position) 13 (n .place)) (le-leb 1 (o .attribute) (n .first)) (le-leb (o .attribute) 8 (n .last))
+      (lt-ltb (o .position) positionsLimit (n .place)) (le-leb 1 (o .attribute) (n .first)) (le-leb (o .attribute) attributesLimit (n .last))
 
   noted-far : (Near o → ⊥) → isNoted note o ≡ false
   unfolding isNoted
-  noted-far n = go (ltb (o .position) 13) (leb 1 (o .attribute)) (leb (o .attribute) 8) refl refl refl
+  noted-far n = go (ltb (o .position) positionsLimit) (leb 1 (o .attribute)) (leb (o .attribute) attributesLimit) refl refl refl
     where
-      go : (x y z : Bool) → ltb (o .position) 13 ≡ x → leb 1 (o .attribute) ≡ y → leb (o .attribute) 8 ≡ z → x && (y && z) && bit (getD note (o .position) 0) (o .attribute - 1) ≡ false
+      go : (x y z : Bool) → ltb (o .position) positionsLimit ≡ x → leb 1 (o .attribute) ≡ y → leb (o .attribute) attributesLimit ≡ z → x && (y && z) && bit (getD note (o .position) 0) (o .attribute - 1) ≡ false
       go false y z e f g = refl
       go true false z e f g = refl
       go true true false e f g = refl
-      go true true true e f g = absurd (n (record { place = ltb-true (o .position) 13 e; first = leb-true 1 (o .attribute) f; last = leb-true (o .attribute) 8 g }))
+      go true true true e f g = absurd (n (record { place = ltb-true (o .position) positionsLimit e; first = leb-true 1 (o .attribute) f; last = leb-true (o .attribute) attributesLimit g }))
 
 -- another occurrence than one in reach
 same-far : (u o : Occurrence) → Near u → (Near o → ⊥) → sameOccurrence u o ≡ false
@@ -68,7 +70,7 @@ same-far u o n f = go (eqb (u .position) (o .position)) (eqb (u .attribute) (o .
 
 -- ---- by bits
 
-pub notes-bit : (note : List ℕ) (rs : List (Rule Occurrence)) → Notes note rs → (k a : ℕ) → k < 13 → a < 8 → bit (getD note k 0) a ≡ isSet rs (occurrence k (suc a))
+pub notes-bit : (note : List ℕ) (rs : List (Rule Occurrence)) → Notes note rs → (k a : ℕ) → k < positionsLimit → a < attributesLimit → bit (getD note k 0) a ≡ isSet rs (occurrence k (suc a))
 notes-bit note rs n k a p q =
     ap (bit (getD note k 0)) {x = a} {y = suc a - 1} (omega arith)
     ∙ sym (noted-near note (occurrence k (suc a)) (record { place = p; first = omega arith; last = omega arith }))
@@ -76,7 +78,7 @@ notes-bit note rs n k a p q =
 
 -- another note with the same bits
 pub notes-same :
-    (note note′ : List ℕ) (rs : List (Rule Occurrence)) → length note′ ≡ 13 → ((k a : ℕ) → k < 13 → 1 ≤ a → a ≤ 8 → bit (getD note′ k 0) (a - 1) ≡ bit (getD note k 0) (a - 1))
+    (note note′ : List ℕ) (rs : List (Rule Occurrence)) → length note′ ≡ positionsLimit → ((k a : ℕ) → k < positionsLimit → 1 ≤ a → a ≤ attributesLimit → bit (getD note′ k 0) (a - 1) ≡ bit (getD note k 0) (a - 1))
     → Notes note rs → Notes note′ rs
 notes-same note note′ rs l same nt =
     record {
@@ -90,20 +92,15 @@ notes-same note note′ rs l same nt =
 
 -- ---- the note of no rule
 
-pub notes-none : (note : List ℕ) → length note ≡ 13 → ((k : ℕ) → getD note k 0 ≡ 0) → Notes note []
+pub notes-none : (note : List ℕ) → length note ≡ positionsLimit → ((k : ℕ) → getD note k 0 ≡ 0) → Notes note []
 notes-none note l z =
     record {
       kept = l;
       holds = λ o. ⊎-elim (λ n. noted-near note o n ∙ ap (λ (x : ℕ). bit x (o .attribute - 1)) (z (o .position)) ∙ bit-zero (o .attribute - 1)) (noted-far note o) (near-or-not o);
     }
 
-pub zeros : (n k : ℕ) → _≡_ {A = ℕ} (getD (replicate n 0) k 0) 0
-zeros zero k = refl
-zeros (suc n) zero = refl
-zeros (suc n) (suc k) = zeros n k
-
-pub notes-begin : Notes (replicate 13 0) []
-notes-begin = notes-none (replicate 13 0) (length-replicate {A = ℕ} 13 0) (zeros 13)
+pub notes-begin : Notes (replicate positionsLimit 0) []
+notes-begin = notes-none (replicate positionsLimit 0) (length-replicate {A = ℕ} positionsLimit 0) (λ k. replicate-at {A = ℕ} positionsLimit k 0)
 
 -- ---- a rule more
 
@@ -159,7 +156,7 @@ unfolding rulesAfter
 notes-refused note b number n rs nt = subst (Notes note) (equal-no number 0 (ruleOf b ∷ rs) rs n refl) nt
 
 module _ (r width : ℕ) (inh syn note b : List ℕ) (small : Small width inh syn) (number : ℕ) (is : number ≡ ruleFault r width inh syn note b) (fine : number ≡ 0) where
-  pub taken-target : (3 ≤ length b) × (byte b 0 < 13) × (1 ≤ byte b 1) × (byte b 1 ≤ 8)
+  pub taken-target : (3 ≤ length b) × (byte b 0 < positionsLimit) × (1 ≤ byte b 1) × (byte b 1 ≤ attributesLimit)
   taken-target = rule-fine r width inh syn note b small (sym is ∙ fine)
 
   pub notes-taken :

@@ -6,6 +6,7 @@ ghost use mathlib.Core.List.{[]};
 ghost use Prim.Native.Nat.{_+_, _-_, _<_, _≤_, _^_};
 ghost use lib.Bits.{bitOr};
 ghost use lib.ListN.{getD, set, replicate};
+ghost use Rattle.meaning.specs.Limits.{attributesLimit, positionsLimit};
 ghost use Rattle.table_rules.specs.Rule.{Small, ones, filledAt, completeNote};
 ghost use Rattle.table_rules.specs.Note.{Notes, GapsAnswered};
 use limits::POSITIONS;
@@ -13,13 +14,13 @@ use limits::POSITIONS;
 // The note of a production without rules.
 pub fn begin() -> [u8; POSITIONS]
     ensures none { λ r. ⌜ Notes r [] ⌝ }
-    ensures zeros { λ r. ⌜ r ≡ replicate 13 0 ⌝ }
+    ensures zeros { λ r. ⌜ r ≡ replicate positionsLimit 0 ⌝ }
 {
     [0u8; POSITIONS]
 }
 
 pub fn note_down(note: &mut [u8; POSITIONS], position: usize, attribute: usize)
-    requires { ⌜ (position < 13) × (1 ≤ attribute) × (attribute ≤ 8) ⌝ }
+    requires { ⌜ (position < positionsLimit) × (1 ≤ attribute) × (attribute ≤ attributesLimit) ⌝ }
     ensures { λ r. ⌜ now (note .exit) ≡ set (now (note .entry)) position (bitOr (getD (now (note .entry)) position 0) (2 ^ (attribute - 1))) ⌝ }
 {
     let byte = note[position];
@@ -28,7 +29,7 @@ pub fn note_down(note: &mut [u8; POSITIONS], position: usize, attribute: usize)
 
 // Whether the lowest d bits are set.
 pub fn all_ones(n: usize, d: usize) -> bool
-    requires { ⌜ (n < 256) × (d ≤ 8) ⌝ }
+    requires { ⌜ (n < 256) × (d ≤ attributesLimit) ⌝ }
     ensures { λ r. ⌜ r ≡ ones n d ⌝ }
 {
     (n + 1) % (1usize << d) == 0
@@ -36,7 +37,7 @@ pub fn all_ones(n: usize, d: usize) -> bool
 
 // Whether the outputs at a position are noted.
 pub fn is_filled(position: usize, inherited: usize, synthesized: usize, byte: usize) -> bool
-    requires { ⌜ (inherited + synthesized ≤ 8) × (byte < 256) ⌝ }
+    requires { ⌜ (inherited + synthesized ≤ attributesLimit) × (byte < 256) ⌝ }
     ensures { λ r. ⌜ r ≡ filledAt position inherited synthesized byte ⌝ }
 {
     if position == 0 {

@@ -2,6 +2,7 @@
 ghost use mathlib.Core.Path.{_≡_};
 ghost use Prim.Native.Nat.{_+_, _*_, _<_, _≤_};
 ghost use lib.ListN.{length};
+ghost use Rattle.meaning.specs.Limits.{attributesLimit, positionsLimit, symbolsLimit};
 ghost use Rattle.meaning.specs.Table.{byte};
 ghost use Rattle.table_rules.specs.Rule.{operandClass, operandPlace, classFault, ruleOrder};
 use limits::POSITIONS;
@@ -15,7 +16,7 @@ pub fn operand_class(
     n: usize,
     k: usize,
 ) -> usize
-    requires { ⌜ (width ≤ 12) × (k < 2) × (3 + 2 * n ≤ length (now body)) ⌝ }
+    requires { ⌜ (width ≤ symbolsLimit) × (k < 2) × (3 + 2 * n ≤ length (now body)) ⌝ }
     ensures { λ r. ⌜ r ≡ operandClass width (now (inh .entry)) (now (syn .entry)) (now (body .entry)) n k ⌝ }
 {
     if n <= k {
@@ -62,7 +63,7 @@ pub fn class_fault(target: usize, first: usize, second: usize) -> u8
 
 // The lowest of 8 and 9 that applies to a rule with n operands, or 0.
 pub fn rule_order(note: &[u8; POSITIONS], n: usize, body: &[u8]) -> u8
-    requires { ⌜ (3 + 2 * n ≤ length (now body)) × (byte (now body) 0 < 13) × (1 ≤ byte (now body) 1) × (byte (now body) 1 ≤ 8) ⌝ }
+    requires { ⌜ (3 + 2 * n ≤ length (now body)) × (byte (now body) 0 < positionsLimit) × (1 ≤ byte (now body) 1) × (byte (now body) 1 ≤ attributesLimit) ⌝ }
     ensures { λ r. ⌜ r ≡ ruleOrder (now (note .entry)) n (now (body .entry)) ⌝ }
 {
     let position = table_fields::wide(body[0]);

@@ -8,7 +8,7 @@ use native.Mathlib.Omega.{arith}
 use lib.Dec.{eqb}
 use lib.ListN.{getD, length}
 use borrow.Author.Tests.{eqb-true}
-use Rattle.meaning.specs.Limits.{rulesLimit}
+use Rattle.meaning.specs.Limits.{rulesLimit, attributesLimit, positionsLimit}
 use Rattle.meaning.specs.Base.{all, countFrom}
 use Rattle.meaning.specs.Table.{byte}
 use Rattle.table_fields.specs.Demand.{ifEqual}
@@ -64,7 +64,7 @@ module _ (width : ℕ) (inh syn : List ℕ) (p a : ℕ) (known : classAt width i
 pub uses-ready :
     (width : ℕ) (inh syn b : List ℕ) (n t x y : ℕ) {number : ℕ} → Small width inh syn → 3 + 2 * n ≤ length b
     → t ≡ classIn width inh syn b 0 → number ≡ classFault t x y → number ≡ 0
-    → (3 + 2 * n ≤ length b) × (byte b 0 < 13) × (1 ≤ byte b 1) × (byte b 1 ≤ 8)
+    → (3 + 2 * n ≤ length b) × (byte b 0 < positionsLimit) × (1 ≤ byte b 1) × (byte b 1 ≤ attributesLimit)
 unfolding classIn
 uses-ready width inh syn b n t x y {number} small long is e z =
     let known : classAt width inh syn (byte b 0) (byte b 1) ≡ 0 → ⊥ = λ q. target-known t x y number e z (is ∙ q) in
@@ -86,7 +86,7 @@ else-fine x y e = go (eqb x 0) refl
 -- the target of a rule without a fault
 pub rule-fine :
     (r width : ℕ) (inh syn note b : List ℕ) → Small width inh syn → ruleFault r width inh syn note b ≡ 0
-    → (3 ≤ length b) × (byte b 0 < 13) × (1 ≤ byte b 1) × (byte b 1 ≤ 8)
+    → (3 ≤ length b) × (byte b 0 < positionsLimit) × (1 ≤ byte b 1) × (byte b 1 ≤ attributesLimit)
 unfolding ruleFault ruleItems
 rule-fine r width inh syn note b small e =
     let q = atMost-fine (nonzero 3) 3 (length b) e in

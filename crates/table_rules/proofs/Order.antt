@@ -7,6 +7,7 @@ use lib.Dec.{leb, ltb}
 use lib.IntN.{ℤ, pos, negsuc}
 use lib.Signed.{leZ}
 use borrow.Author.Tests.{leb-true, leb-false, le-leb, lt-leb, ltb-true, ltb-false}
+use Rattle.meaning.specs.Limits.{divisorLimit}
 use Rattle.meaning.specs.Table.{signed}
 use Rattle.table_rules.specs.Rule.{inOrder}
 
@@ -50,9 +51,9 @@ module _ (x y : ℕ) (small-x : x < 4294967296) (small-y : y < 4294967296) where
   order-tested = order-by (ltb x 2147483648) (ltb y 2147483648) refl refl
 
 -- a divisor from 1 to 1,000,000
-divisor-by : (n : ℕ) (s : Bool) → ltb n 2147483648 ≡ s → leZ (pos 1) (bySign s n) && leZ (bySign s n) (pos 1000000) ≡ leb 1 n && leb n 1000000
+divisor-by : (n : ℕ) (s : Bool) → ltb n 2147483648 ≡ s → leZ (pos 1) (bySign s n) && leZ (bySign s n) (pos divisorLimit) ≡ leb 1 n && leb n divisorLimit
 divisor-by n true p = refl
-divisor-by n false p = let h = ltb-false n 2147483648 p in sym (ap (λ x. leb 1 n && x) (lt-leb n 1000000 (omega arith)) ∙ and-false (leb 1 n))
+divisor-by n false p = let h = ltb-false n 2147483648 p in sym (ap (λ x. leb 1 n && x) (lt-leb n divisorLimit (omega arith)) ∙ and-false (leb 1 n))
 
-pub divisor-same : (n : ℕ) → leZ (pos 1) (signed n) && leZ (signed n) (pos 1000000) ≡ leb 1 n && leb n 1000000
+pub divisor-same : (n : ℕ) → leZ (pos 1) (signed n) && leZ (signed n) (pos divisorLimit) ≡ leb 1 n && leb n divisorLimit
 divisor-same n = divisor-by n (ltb n 2147483648) refl

@@ -5,6 +5,7 @@ use mathlib.Core.Bool.{Bool, true, false, _&&_, not}
 use mathlib.Core.List.{List, [], _∷_, reverse}
 use lib.Dec.{ltb}
 use lib.ListN.{getD, length}
+use Rattle.meaning.specs.Limits.{attributesLimit, positionsLimit}
 use Rattle.meaning.specs.Base.{any}
 use Rattle.meaning.specs.Grammar.{Symbol, terminal, nonterminal, Occurrence, Rule, Counts, countsIn}
 use Rattle.meaning.specs.Table.{State, Entry, within, ruleOf, occurrenceKnown, isInput, sameOccurrence, hasRule, complete}
@@ -33,11 +34,11 @@ isSet rs o = any (λ r. sameOccurrence (r .target) o) rs
 
 -- the occurrence is in the note
 unfoldable pub isNoted : List ℕ → Occurrence → Bool
-isNoted note o = ltb (o .position) 13 && within 1 (o .attribute) 8 && bit (getD note (o .position) 0) (o .attribute - 1)
+isNoted note o = ltb (o .position) positionsLimit && within 1 (o .attribute) attributesLimit && bit (getD note (o .position) 0) (o .attribute - 1)
 
 -- 02: "the notes hold exactly the occurrences that its production's rules have set so far"
 pub record Notes (note : List ℕ) (rs : List (Rule Occurrence)) : Type 0 where
-  pub kept : length note ≡ 13
+  pub kept : length note ≡ positionsLimit
   pub holds : (o : Occurrence) → isNoted note o ≡ isSet rs o
 
 -- the rules of a production after a rule field with this body: one more, unless the field is refused

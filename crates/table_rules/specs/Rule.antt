@@ -7,14 +7,14 @@ use mathlib.Core.List.{List}
 use lib.ListN.{getD, length}
 use lib.Dec.{eqb, leb}
 use lib.Signed.{leZ}
-use Rattle.meaning.specs.Limits.{rulesLimit}
+use Rattle.meaning.specs.Limits.{rulesLimit, attributesLimit, conditionsLimit, symbolsLimit, divisorLimit}
 use Rattle.meaning.specs.Base.{all, countFrom}
 use Rattle.meaning.specs.Table.{byte, signed}
 use Rattle.table_fields.specs.Demand.{holds, lacks, equal, differs, atMost, below, ifEqual, ifBelow}
 
 -- no symbol has more than 8 attributes
 abbrev pub Small : ℕ → List ℕ → List ℕ → Type 0
-Small width inh syn = (width ≤ 12) × ((k : ℕ) → k ≤ width → getD inh k 0 + getD syn k 0 ≤ 8)
+Small width inh syn = (width ≤ symbolsLimit) × ((k : ℕ) → k ≤ width → getD inh k 0 + getD syn k 0 ≤ attributesLimit)
 
 -- ---- occurrences
 
@@ -89,7 +89,7 @@ pub record OperandsFit (limit width : ℕ) (inh syn b : List ℕ) (n : ℕ) : Ty
   pub secondPlace : operandPlace b n 1 < limit
 
 unfoldable pub divisorFits : ℕ → List ℕ → Bool
-divisorFits f b = ifEqual f 8 (ifBelow (fourAt b 5) 1 false (leb (fourAt b 5) 1000000)) true
+divisorFits f b = ifEqual f 8 (ifBelow (fourAt b 5) 1 false (leb (fourAt b 5) divisorLimit)) true
 
 -- of a target and two operands by their classes
 unfoldable pub classFault : ℕ → ℕ → ℕ → ℕ
@@ -155,7 +155,7 @@ atMostFault n width inh syn b =
 unfoldable pub conditionFault : ℕ → ℕ → List ℕ → List ℕ → List ℕ → ℕ
 conditionFault c width inh syn b =
     atMost 1 (length b) 4
-    (below c 512 4
+    (below c conditionsLimit 4
     (atMost (byte b 0) 2 5
     (ifEqual (byte b 0) 0
     (rangeFault width inh syn b)

@@ -3,6 +3,7 @@
 ghost use mathlib.Core.Path.{_≡_};
 ghost use Prim.Native.Nat.{_+_, _-_, _<_, _≤_};
 ghost use lib.ListN.{length, getD};
+ghost use Rattle.meaning.specs.Limits.{attributesLimit, positionsLimit, symbolsLimit};
 ghost use Rattle.table_rules.specs.Rule.{classAt, classIn, fourAt, bit};
 use limits::POSITIONS;
 
@@ -14,7 +15,7 @@ pub fn class_of(
     position: usize,
     attribute: usize,
 ) -> usize
-    requires { ⌜ width ≤ 12 ⌝ }
+    requires { ⌜ width ≤ symbolsLimit ⌝ }
     ensures { λ r. ⌜ r ≡ classAt width (now (inh .entry)) (now (syn .entry)) position attribute ⌝ }
 {
     if width < position {
@@ -48,7 +49,7 @@ pub fn class_in(
     body: &[u8],
     at: usize,
 ) -> usize
-    requires { ⌜ (width ≤ 12) × (at + 2 ≤ length (now body)) ⌝ }
+    requires { ⌜ (width ≤ symbolsLimit) × (at + 2 ≤ length (now body)) ⌝ }
     ensures { λ r. ⌜ r ≡ classIn width (now (inh .entry)) (now (syn .entry)) (now (body .entry)) at ⌝ }
 {
     let position = table_fields::wide(body[at]);
@@ -65,7 +66,7 @@ pub fn four_at(body: &[u8], at: usize) -> usize
 }
 
 pub fn is_noted(note: &[u8; POSITIONS], position: usize, attribute: usize) -> bool
-    requires { ⌜ (position < 13) × (1 ≤ attribute) × (attribute ≤ 8) ⌝ }
+    requires { ⌜ (position < positionsLimit) × (1 ≤ attribute) × (attribute ≤ attributesLimit) ⌝ }
     ensures { λ r. ⌜ r ≡ bit (getD (now (note .entry)) position 0) (attribute - 1) ⌝ }
 {
     (table_fields::wide(note[position]) >> (attribute - 1)) % 2 == 1

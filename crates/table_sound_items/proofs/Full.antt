@@ -6,6 +6,7 @@ use mathlib.Core.Logic.{⊎-elim}
 use native.Mathlib.Omega.{arith}
 use lib.Bits.{bitAnd, and-le-l, and-le-r}
 use lib.ListN.{getD}
+use Rattle.meaning.specs.Limits.{positionsLimit, symbolsLimit}
 use Rattle.table_fields.proofs.Cases.{lt-or-le}
 use Rattle.table_sound_items.specs.Sound.{WordsSettled, AllFull}
 
@@ -41,8 +42,8 @@ module _ (words : List ℕ) where
 
   -- all from the third on
   pub others-full :
-      (a b c : ℕ) → (a ≡ 65535 → AllFull words 2 6) → (b ≡ 65535 → AllFull words 6 10) → (c ≡ 65535 → AllFull words 9 13) → a < 65536 → b < 65536 → c < 65536
-      → bitAnd (bitAnd a b) c ≡ 65535 → AllFull words 2 13
+      (a b c : ℕ) → (a ≡ 65535 → AllFull words 2 6) → (b ≡ 65535 → AllFull words 6 10) → (c ≡ 65535 → AllFull words 9 positionsLimit) → a < 65536 → b < 65536 → c < 65536
+      → bitAnd (bitAnd a b) c ≡ 65535 → AllFull words 2 positionsLimit
   others-full a b c first second third la lb lc e k l m =
       let two = left-full (bitAnd a b) c e (common-below a b la) in
       ⊎-elim
@@ -65,5 +66,5 @@ module _ (words : List ℕ) where
       one-settled z k l = below-two k (omega arith)
 
       -- any number of them
-      pub every-settled : width ≤ 12 → AllFull words 2 13 → WordsSettled words width
+      pub every-settled : width ≤ symbolsLimit → AllFull words 2 positionsLimit → WordsSettled words width
       every-settled few all k l = ⊎-elim (λ h. below-two k h) (λ h. all k h (omega arith)) (lt-or-le k 2)

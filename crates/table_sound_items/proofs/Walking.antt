@@ -6,6 +6,7 @@ use mathlib.Core.List.{List, []}
 use native.Mathlib.Omega.{arith}
 use native.Mathlib.Decide.{ℕ-discrete}
 use lib.ListN.{getD, length, replicate, take, drop}
+use Rattle.meaning.specs.Limits.{positionsLimit}
 use Rattle.meaning.specs.Base.{all}
 use Rattle.meaning.specs.Table.{byte}
 use Rattle.table_fields.specs.Field.{bodyAt}
@@ -32,7 +33,7 @@ module _ (t : List ℕ) (from r₀ c₀ : ℕ) (inputs words₀ : List ℕ) wher
   pub sounding-start : from ≤ length t → r₀ ≤ from → c₀ ≤ from → Sounding t from r₀ c₀ inputs words₀ words₀ from r₀ c₀
   sounding-start l m n =
       record {
-        note = replicate 13 0;
+        note = replicate positionsLimit 0;
         after = omega arith;
         inside = l;
         rules = m;
@@ -163,7 +164,7 @@ module _ (t : List ℕ) (at carrying : ℕ) (inherited synthesized : List ℕ) (
       inputs-here : Inputs width inh syn inputs
       inputs-here = inputs-placed width inh syn small _ _ first-at second-at inputs fi
 
-      settled-here : Settled width inh syn (replicate 13 0) words₀
+      settled-here : Settled width inh syn (replicate positionsLimit 0) words₀
       settled-here = settled-placed width inh syn small _ _ first-at second-at words₀ fo
 
     body-taken : Sounding t (at + 5 + width) r₀ c₀ inputs words₀ words end r c → BodyTaken t at carrying inherited synthesized r₀ c₀ words end r c

@@ -3,7 +3,7 @@ use Prim.Native.Nat.{ℕ, _+_, _≤_, _<_}
 use mathlib.Core.Path.{_≡_}
 use mathlib.Core.List.{List}
 use lib.ListN.{getD, length, replicate}
-use Rattle.meaning.specs.Limits.{rulesLimit, conditionsLimit}
+use Rattle.meaning.specs.Limits.{rulesLimit, conditionsLimit, positionsLimit}
 use Rattle.meaning.specs.Table.{byte}
 use Rattle.table_fields.specs.Field.{Whole, bodyAt}
 use Rattle.table_rules.specs.Rule.{Small, ruleFault, conditionFault}
@@ -53,9 +53,9 @@ pub record Sounding (t : List ℕ) (from r₀ c₀ : ℕ) (inputs words₀ words
   pub rules : r ≤ at
   pub conditions : c ≤ at
   pub walked :
-      (offset width : ℕ) (inh syn : List ℕ) → Small width inh syn → Inputs width inh syn inputs → Settled width inh syn (replicate 13 0) words₀
+      (offset width : ℕ) (inh syn : List ℕ) → Small width inh syn → Inputs width inh syn inputs → Settled width inh syn (replicate positionsLimit 0) words₀
       → Walked (settingOf t offset width inh syn) from r₀ c₀ note at r c
-  pub settled : (width : ℕ) (inh syn : List ℕ) → Small width inh syn → Inputs width inh syn inputs → Settled width inh syn (replicate 13 0) words₀ → Settled width inh syn note words
+  pub settled : (width : ℕ) (inh syn : List ℕ) → Small width inh syn → Inputs width inh syn inputs → Settled width inh syn (replicate positionsLimit 0) words₀ → Settled width inh syn note words
 
 -- the production is over: its table is, or a tag byte 3 follows
 abbrev pub Over : List ℕ → ℕ → Type 0

@@ -4,6 +4,7 @@ ghost use mathlib.Core.Path.{_≡_};
 ghost use mathlib.Core.Bool.{true, false};
 ghost use Prim.Native.Nat.{_+_, _*_, _<_, _≤_};
 ghost use lib.ListN.{length};
+ghost use Rattle.meaning.specs.Limits.{positionsLimit, symbolsLimit};
 ghost use Rattle.meaning.specs.Table.{byte};
 ghost use Rattle.table_fields.specs.Field.{Whole};
 ghost use Rattle.table_rules.specs.Rule.{lengthOf};
@@ -117,7 +118,7 @@ fn is_range(inputs: &[u16; POSITIONS], body: &[u8]) -> bool
     requires { ⌜ (length (now body) ≡ 11) × (byte (now body) 0 ≡ 0) ⌝ }
     ensures { λ r. ⌜ (r ≡ true → ConditionSound (now (inputs .entry)) (now (body .entry))) ⌝ }
 {
-    if !table_occurrence_rules::is_input(inputs, 13, body, 1) {
+    if !table_occurrence_rules::is_input(inputs, POSITIONS, body, 1) {
         return false;
     }
     table_rule_conditions::in_order(table_rules::four_at(body, 3), table_rules::four_at(body, 7))
@@ -128,10 +129,10 @@ fn is_comparison(inputs: &[u16; POSITIONS], body: &[u8]) -> bool
     requires { ⌜ (1 ≤ byte (now body) 0) × (byte (now body) 0 ≤ 2) × (length (now body) ≡ 4 * byte (now body) 0 + 1) ⌝ }
     ensures { λ r. ⌜ (r ≡ true → ConditionSound (now (inputs .entry)) (now (body .entry))) ⌝ }
 {
-    if !table_occurrence_rules::is_input(inputs, 13, body, 1) {
+    if !table_occurrence_rules::is_input(inputs, POSITIONS, body, 1) {
         return false;
     }
-    table_occurrence_rules::is_input(inputs, 13, body, 3)
+    table_occurrence_rules::is_input(inputs, POSITIONS, body, 3)
 }
 
 // The offset behind the condition at an offset, after c conditions of the table; 0 where something may be wrong with it.
@@ -189,7 +190,7 @@ fn common(settled: &[u16; POSITIONS], from: usize) -> usize
 
 // True only where all words from the third on are full.
 fn others_full(settled: &[u16; POSITIONS]) -> bool
-    ensures { λ r. ⌜ (r ≡ true → AllFull (now (settled .entry)) 2 13) ⌝ }
+    ensures { λ r. ⌜ (r ≡ true → AllFull (now (settled .entry)) 2 positionsLimit) ⌝ }
 {
     let first = common(settled, 2);
     let second = common(settled, 6);
@@ -200,7 +201,7 @@ fn others_full(settled: &[u16; POSITIONS]) -> bool
 // True only where every output up to a position is settled: then its words are full. Those past the position are full anyway; they are not looked
 // at where the right side is short.
 pub fn all_settled(settled: &[u16; POSITIONS], width: usize) -> bool
-    requires { ⌜ width ≤ 12 ⌝ }
+    requires { ⌜ width ≤ symbolsLimit ⌝ }
     ensures { λ r. ⌜ (r ≡ true → WordsSettled (now (settled .entry)) width) ⌝ }
 {
     if settled[0] != 65535 {

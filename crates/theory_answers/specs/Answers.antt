@@ -3,7 +3,7 @@ use Prim.Native.Nat.{ℕ, _≤_}
 use native.Mathlib.Omega.{arith}
 use mathlib.Core.Path.{_≡_, refl, sym, ap, _∙_, subst}
 use mathlib.Core.Logic.{_⊎_, inl, inr}
-use mathlib.Core.Bool.{Bool, true, false, _||_}
+use mathlib.Core.Bool.{Bool, true, false}
 use mathlib.Core.List.{List, [], reverse}
 use lib.ListN.{length, take}
 use lib.Dec.{T, eqb, ltb}
@@ -23,7 +23,7 @@ use Rattle.meaning.specs.Calls.{Record, Stacks, Called, Answer, closedRecord, m
 use Rattle.meaning.specs.Fit.{Fit}
 use Rattle.meaning.specs.PublicCalls.{Checked, usable, unusable, checkedAs, check, Call, feed, finish, callOf, areaLength, written, Effect, effect, opens, performs}
 use Rattle.meaning_statements.specs.CallStatements.{isTableNumber, openingAnswer, engineAnswer, isForty, callAnswer, AlwaysAnswers, Lendable, Even, Met, UnevenLists, MovesTo, CallsMove, EmptyFeed, LimitsOnly, HandlesAlways}
-use Rattle.theory_base.specs.Members.{T→true}
+use Rattle.theory_base.specs.Members.{T→true, or-left}
 use Rattle.theory_base.specs.Feeds.{leaves-of}
 use Rattle.theory_table.specs.ReadWellFormed.{read-well-formed}
 use Rattle.theory_table.specs.AcceptedTable.{accepted-well-formed}
@@ -192,9 +192,6 @@ opens-right program bs area m = go (ltb (length area) areaLength) (check bs) (ch
     go true k t = tt
     go false (unusable n o) t = t
     go false (usable s) t = opened (ltb (lentOf m .maxRegisters) (length (opening (grammarOf s) .registers))) (ltb (lentOf m .maxPlaces) 1) (grammarOf s)
-
-or-left : (a b : Bool) → T a → T (a || b)
-or-left true b t = tt
 
 pub always-answers : AlwaysAnswers
 always-answers = (opens-right, performs-right)

@@ -183,8 +183,8 @@ not-empty l e = absurd (omega (arith, ap length (sym l ∙ e)))
 same-head : {left us vs : List Leaf} {u v : Leaf} → left ≡ u ∷ us → left ≡ v ∷ vs → u ≡ v
 same-head l e = let q = sym l ∙ e in cc
 
-number-is : (a b : ℕ) → blocked a ≡ blocked b → a ≡ b
-number-is a b e = cc
+pub blocked-is : {j k : ℕ} → blocked j ≡ blocked k → j ≡ k
+blocked-is e = cc
 
 -- ---- where a feed ends
 
@@ -294,19 +294,19 @@ module _ (g : Grammar) (wf : WellFormed g) (lent : Lent) (c : Config) where
   both-refused (notToken q t us l n f w u) (between v′ u′ h′) = absurd (subst T v′ w)
   both-refused (atToken t us l n f h) (tooMany q′ t′ us′ l′ n′ w′ u′) = absurd (omega (arith, n, n′))
   both-refused (atToken t us l n f h) (notToken q′ t′ us′ l′ n′ f′ w′ u′) = absurd (omega (arith, ap (λ z. z .kind) (same-head l l′), f, f′))
-  both-refused {d = d} (atToken t us l n f h) (atToken t′ us′ l′ n′ f′ h′) = number-is _ _ (sym h ∙ (ap (λ z. next g lent (comes z) d) (same-head l l′) ∙ h′))
+  both-refused {d = d} (atToken t us l n f h) (atToken t′ us′ l′ n′ f′ h′) = blocked-is (sym h ∙ (ap (λ z. next g lent (comes z) d) (same-head l l′) ∙ h′))
   both-refused (atToken t us l n f h) (atEnd l′ z′ f′ h′) = not-empty l l′
-  both-refused (atToken t us l n f h) (between v′ u′ h′) = number-is _ _ (sym h ∙ h′ (comes t))
+  both-refused (atToken t us l n f h) (between v′ u′ h′) = blocked-is (sym h ∙ h′ (comes t))
   both-refused (atEnd l z f h) (tooMany q′ t′ us′ l′ n′ w′ u′) = not-empty l′ l
   both-refused (atEnd l z f h) (notToken q′ t′ us′ l′ n′ f′ w′ u′) = not-empty l′ l
   both-refused (atEnd l z f h) (atToken t′ us′ l′ n′ f′ h′) = not-empty l′ l
-  both-refused (atEnd l z f h) (atEnd l′ z′ f′ h′) = number-is _ _ (sym h ∙ h′)
-  both-refused (atEnd l z f h) (between v′ u′ h′) = number-is _ _ (sym h ∙ h′ Machine.ends)
+  both-refused (atEnd l z f h) (atEnd l′ z′ f′ h′) = blocked-is (sym h ∙ h′)
+  both-refused (atEnd l z f h) (between v′ u′ h′) = blocked-is (sym h ∙ h′ Machine.ends)
   both-refused (between v u h) (tooMany q′ t′ us′ l′ n′ w′ u′) = absurd (subst T v w′)
   both-refused (between v u h) (notToken q′ t′ us′ l′ n′ f′ w′ u′) = absurd (subst T v w′)
-  both-refused (between v u h) (atToken t′ us′ l′ n′ f′ h′) = number-is _ _ (sym (h (comes t′)) ∙ h′)
-  both-refused (between v u h) (atEnd l′ z′ f′ h′) = number-is _ _ (sym (h Machine.ends) ∙ h′)
-  both-refused (between v u h) (between v′ u′ h′) = number-is _ _ (sym (h Machine.ends) ∙ h′ Machine.ends)
+  both-refused (between v u h) (atToken t′ us′ l′ n′ f′ h′) = blocked-is (sym (h (comes t′)) ∙ h′)
+  both-refused (between v u h) (atEnd l′ z′ f′ h′) = blocked-is (sym (h Machine.ends) ∙ h′)
+  both-refused (between v u h) (between v′ u′ h′) = blocked-is (sym (h Machine.ends) ∙ h′ Machine.ends)
 
   -- where a feed stops it is not refused
   stops-not : {ts left : List Leaf} {ws : List Act} {d : Config} {k : ℕ} {A : Type 0} → left ≡ [] → T (waits (d .frames)) → Refuses g lent (λ us. Unit {0}) ts c ws left d k → A

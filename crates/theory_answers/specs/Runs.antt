@@ -15,7 +15,7 @@ use Rattle.meaning.specs.Tree.{isLeafOf}
 use Rattle.meaning.specs.Walk.{Act, actBy, Makes, nothing, andThen}
 use Rattle.meaning.specs.PublicCalls.{feed, finish}
 use Rattle.meaning_statements.specs.CallStatements.{Follows, Unseen, Refuses, tooMany, notToken, atToken, atEnd, between}
-use Rattle.theory_base.specs.Members.{T→true, both}
+use Rattle.theory_base.specs.Members.{T→true, both, left-false}
 use Rattle.theory_base.specs.Steps.{at-hand}
 use Rattle.theory_answers.specs.ShapeMoves.{IsAhead}
 use Rattle.theory_answers.specs.Bounds.{counts, look-free, no-read, Blocks, blocks}
@@ -59,8 +59,8 @@ abbrev Last : (List Leaf → Type 0) → Coming → Type 0
 Last Behind (comes t) = Unit {0}
 Last Behind ends = (us : List Leaf) → Behind us → us ≡ []
 
-unread-none : (c d : Config) (us : List Leaf) → d .tokens ≡ c .tokens → unread c d us ≡ us
-unread-none c d us e = let z : d .tokens - c .tokens ≡ 0 = omega (arith, e) in ap (λ n. drop n us) z
+pub unread-same : (c d : Config) (us : List Leaf) → d .tokens ≡ c .tokens → unread c d us ≡ us
+unread-same c d us e = let z : d .tokens - c .tokens ≡ 0 = omega (arith, e) in ap (λ n. drop n us) z
 
 unread-one : (c d : Config) (t : Leaf) (us ts : List Leaf) → us ≡ t ∷ ts → d .tokens ≡ suc (c .tokens) → unread c d us ≡ ts
 unread-one c d t us ts e h =
@@ -76,11 +76,7 @@ over-token t e = absurd (let z : _≡_ {A = ℕ} 0 1 = cc in omega arith)
 
 -- once the token at hand is read, what is still to do needs no next one
 idle : (t : Leaf) (n : ℕ) (c : Config) → c .tokens ≡ suc n → waits (c .frames) && isDone (comes t) n c ≡ false → waits (c .frames) ≡ false
-idle t n c e w = not-both (waits (c .frames)) (ltb n (c .tokens)) (T→true (ltb n (c .tokens)) (lt→ltb n (c .tokens) (omega (arith, e)))) w
-  where
-    not-both : (a b : Bool) → b ≡ true → a && b ≡ false → a ≡ false
-    not-both true b e f = absurd (subst T (sym e ∙ f) tt)
-    not-both false b e f = refl
+idle t n c e w = left-false (waits (c .frames)) (ltb n (c .tokens)) (T→true (ltb n (c .tokens)) (lt→ltb n (c .tokens) (omega (arith, e)))) w
 
 -- a start symbol that is left waits
 unfinished : (c : Config) → waits (c .frames) && isFinished c ≡ false → isFinished c ≡ false
@@ -105,16 +101,16 @@ module _ (g : Grammar) (lent : Lent) where
   passed ends n us c d s w h = go (counts g lent ends c d h .tokens)
     where
       go : (d .tokens ≡ c .tokens) ⊎ ((t : Leaf) × (ends ≡ comes t) × (d .tokens ≡ suc (c .tokens))) → MoveLeaves ends n us c d
-      go (inl e) = record { left = us; coming = (s .0, e ∙ s .1); rest = λ ws. unread-none c d (us ++ ws) e }
+      go (inl e) = record { left = us; coming = (s .0, e ∙ s .1); rest = λ ws. unread-same c d (us ++ ws) e }
       go (inr v) = over-token (v .0) (v .1)
   passed (comes t) n us c d (inl s) w h = go (counts g lent (comes t) c d h .tokens)
     where
       go : (d .tokens ≡ c .tokens) ⊎ ((u : Leaf) × (comes t ≡ comes u) × (d .tokens ≡ suc (c .tokens))) → MoveLeaves (comes t) n us c d
-      go (inl e) = record { left = us; coming = inl (s .0, e ∙ s .1); rest = λ ws. unread-none c d (us ++ ws) e }
+      go (inl e) = record { left = us; coming = inl (s .0, e ∙ s .1); rest = λ ws. unread-same c d (us ++ ws) e }
       go (inr v) = record { left = []; coming = inr (refl, omega (arith, v .2, s .1)); rest = λ ws. unread-one c d t (us ++ ws) ws (ap (λ x. x ++ ws) (s .0)) (v .2) }
   passed (comes t) n us c d (inr s) w h =
       let e = no-read g lent (comes t) c d (idle t n c (s .1) w) h in
-      record { left = us; coming = inr (s .0, e ∙ s .1); rest = λ ws. unread-none c d (us ++ ws) e }
+      record { left = us; coming = inr (s .0, e ∙ s .1); rest = λ ws. unread-same c d (us ++ ws) e }
 
   -- what is at hand is what comes next
   same-look : (Behind : List Leaf → Type 0) (l : Coming) (n : ℕ) (us : List Leaf) (c : Config) → Last Behind l → ToCome l n us (c .tokens) → waits (c .frames) && isDone l n c ≡ false → (ws : List Leaf) → Behind ws → next g lent (lookAt (us ++ ws)) c ≡ next g lent l c

@@ -9,6 +9,7 @@ use lib.ListN.{length, drop, take}
 use lib.Seq.{drop-cons}
 use lib.Dec.{T, eqb}
 use lib.IntN.{ℤ}
+use Rattle.meaning.specs.Limits.{symbolsLimit}
 use Rattle.meaning.specs.Base.{total, isEmpty}
 use Rattle.meaning.specs.Grammar.{Symbol, terminal, nonterminal, Production, Grammar, inh, syn, markedFor, productionAt, symbolAt, whole, wholeProduction, segmentPlace}
 use Rattle.meaning.specs.Value.{inRange, mark}
@@ -33,7 +34,7 @@ pub listed : (g : Grammar) → {p : ℕ} {fs : List Frame} {base : List ℤ} →
 listed g segment = inl refl
 listed g (inside q k xs vs ss l e n s) = inr l
 
-pub short : (g : Grammar) → WellFormed g → {p : ℕ} {fs : List Frame} {base : List ℤ} → StandsOnFrames g p fs base → length (productionAt g p .right) ≤ 12
+pub short : (g : Grammar) → WellFormed g → {p : ℕ} {fs : List Frame} {base : List ℤ} → StandsOnFrames g p fs base → length (productionAt g p .right) ≤ symbolsLimit
 short g wf segment = omega arith
 short g wf (inside {p} q k xs vs ss l e n s) = well-formed-at g wf p l .short
 

@@ -20,7 +20,7 @@ use Rattle.theory_base.specs.Present.{for-in, in-for}
 use Rattle.theory_base.specs.Evaluate.{Written, written, distinct-keep}
 use Rattle.theory_base.specs.Values.{drop-head}
 
-occ-eq : (o u : Occurrence) → o .position ≡ u .position → o .attribute ≡ u .attribute → o ≡ u
+pub occ-eq : (o u : Occurrence) → o .position ≡ u .position → o .attribute ≡ u .attribute → o ≡ u
 occ-eq o u e f = λ i. record { position = e i; attribute = f i }
 
 -- ---- the inherited attributes of the symbol at hand, of which k are passed

@@ -1,18 +1,20 @@
 -- A feed as its grammar sees it: kinds and values of equal number are leaves, each with the values that its terminal has.
-use Prim.Native.Nat.{ℕ, suc}
+use Prim.Native.Nat.{ℕ, suc, _≤_}
 use native.Mathlib.Omega.{arith}
 use mathlib.Core.Path.{_≡_, refl, ap}
 use mathlib.Core.Bool.{Bool, true, false, _&&_}
 use mathlib.Core.List.{List, [], _∷_, _++_}
 use lib.ListN.{length}
 use lib.Dec.{T, eqb, leb→le, le→leb}
-use lib.IntN.{ℤ, pos, negsuc}
+use lib.IntN.{ℤ, pos, negsuc, natAbs}
 use lib.Signed.{leZ}
 use borrow.Author.Tests.{ne-eqb, eq-eqb}
+use mir.Syntax.{w32}
+use mir.Val.{SFits}
 use Rattle.meaning.specs.Base.{all, any}
 use Rattle.meaning.specs.Grammar.{Grammar, Token, Leaf, attributeIf, carried, leafOf, leaves}
 use Rattle.meaning.specs.Rules.{fourBytes}
-use Rattle.meaning.specs.Value.{inRange, lowest}
+use Rattle.meaning.specs.Value.{inRange, lowest, highest}
 use Rattle.meaning.specs.Machine.{feedAll}
 use Rattle.meaning.specs.Tree.{isLeafOf}
 use Rattle.meaning.specs.Calls.{Record, Stacks, Called, refused, lentOf, configOf, afterFeed, whenFit, whenEven, tokensFrom, feedOf, asBrought}
@@ -39,10 +41,20 @@ pub leaves-length : (g : Grammar) (ts : List Token) → length (leaves g ts) ≡
 leaves-length g [] = refl
 leaves-length g (t ∷ ts) = ap suc (leaves-length g ts)
 
+-- a signed 32-bit value has four bytes
+pub four-of : (v : ℤ) → SFits w32 v → T (fourBytes v)
+four-of (pos n) f = le→leb n 2147483647 (omega (arith, f .sfits))
+four-of (negsuc n) f = and (leZ (negsuc 2147483647) (negsuc n)) true (le→leb n 2147483647 (omega (arith, f .sfits))) tt
+
 -- four bytes are in range
 pub four-ranged : (v : ℤ) → T (fourBytes v) → T (inRange v)
-four-ranged (pos n) t = le→leb n 1000000000000 (let l = leb→le n 2147483647 t in omega arith)
+four-ranged (pos n) t = le→leb n (natAbs highest) (let l = leb→le n 2147483647 t in omega arith)
 four-ranged (negsuc n) t = and (leZ lowest (negsuc n)) true (le→leb n 999999999999 (let l = leb→le n 2147483647 (both (leZ (negsuc 2147483647) (negsuc n)) true t .0) in omega arith)) tt
+
+-- a terminal has at most one attribute
+pub attribute-most : (b : Bool) → attributeIf b ≤ 1
+attribute-most true = omega arith
+attribute-most false = omega arith
 
 -- a leaf whose value is in range is one of its terminal
 pub carried-leaf : (b : Bool) (v : ℤ) → T (inRange v) → T (eqb (length (carried b v)) (attributeIf b) && all inRange (carried b v))

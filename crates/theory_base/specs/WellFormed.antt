@@ -7,6 +7,7 @@ use mathlib.Core.Bool.{false}
 use lib.ListN.{getD, length, List·getD-eq-default}
 use lib.Dec.{eqb}
 use borrow.Author.Tests.{ne-eqb}
+use Rattle.meaning.specs.Limits.{attributesLimit}
 use Rattle.meaning.specs.Base.{In}
 use Rattle.meaning.specs.Grammar.{Occurrence, Rule, Condition, Production, Grammar, productionAt, wholeProduction, whole, noCounts}
 use Rattle.meaning.specs.Rules.{Operands, Reads, Input, Output, OutputAt, Operand, Distinct, WellFormedProduction, WellFormed}
@@ -25,10 +26,10 @@ well-formed-at g f p l = rw (listed-at g f p l) (f .each (getD (g .productions) 
 
 -- ---- counts of attributes
 
-pub counts-most : (g : Grammar) → WellFormed g → (n : ℕ) → getD (g .counts) n noCounts .inherited + getD (g .counts) n noCounts .synthesized ≤ 8
+pub counts-most : (g : Grammar) → WellFormed g → (n : ℕ) → getD (g .counts) n noCounts .inherited + getD (g .counts) n noCounts .synthesized ≤ attributesLimit
 counts-most g w n = go (decLt n (length (g .counts)))
   where
-    go : Dec (n < length (g .counts)) → getD (g .counts) n noCounts .inherited + getD (g .counts) n noCounts .synthesized ≤ 8
+    go : Dec (n < length (g .counts)) → getD (g .counts) n noCounts .inherited + getD (g .counts) n noCounts .synthesized ≤ attributesLimit
     go (yes l) = w .attributes (getD (g .counts) n noCounts) (getD-in (g .counts) n noCounts l)
     go (no l) = rw (List·getD-eq-default (g .counts) noCounts {n = n} (omega arith)) (omega arith)
 

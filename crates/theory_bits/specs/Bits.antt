@@ -11,7 +11,7 @@ use lib.Pow.{pow-pos, pow-add, pow-lt, shl-shr, shr-shr}
 or-low : (a b : ℕ) → bitOr a b % 2 ≡ max (a % 2) (b % 2)
 or-low a b = let e = or-step a b in omega (arith, mod-lt a (zero-lt-suc 1), mod-lt b (zero-lt-suc 1))
 
-and-low : (a b : ℕ) → bitAnd a b % 2 ≡ min (a % 2) (b % 2)
+pub and-low : (a b : ℕ) → bitAnd a b % 2 ≡ min (a % 2) (b % 2)
 and-low a b = let e = and-step a b in omega (arith, mod-lt a (zero-lt-suc 1), mod-lt b (zero-lt-suc 1))
 
 pub or-at : (a b t : ℕ) → bitOr a b / 2 ^ t % 2 ≡ max (a / 2 ^ t % 2) (b / 2 ^ t % 2)

@@ -2,7 +2,7 @@
 use Prim.Native.Nat.{ℕ, _-_, _≤_}
 use native.Mathlib.Omega.{arith}
 use mathlib.Core.Path.{_≡_, refl, sym, ap, _∙_}
-use mathlib.Core.Bool.{Bool, true, false}
+use mathlib.Core.Bool.{Bool, true, false, true≢false}
 use mathlib.Core.List.{List, [], _∷_, _++_, map, append-assoc, append-nil}
 use lib.ListN.{length, drop, length-map, length-replicate}
 use lib.Dec.{ltb}
@@ -20,7 +20,7 @@ use Rattle.meaning.specs.Rules.{WellFormed}
 use Rattle.theory_base.specs.MoveCounts.{pastEnd}
 use Rattle.theory_base.specs.WalkCounts.{moves-to}
 use Rattle.theory_base.specs.CallsUnder.{CallsUnder, opened, fed, finished}
-use Rattle.theory_base.specs.Members.{apart, getD-any}
+use Rattle.theory_base.specs.Members.{getD-any}
 use Rattle.theory_base.specs.Selectors.{tree-syn, tree-size}
 use Rattle.theory_base.specs.Walks.{allMoves, room}
 use Rattle.theory_answers.specs.Memory.{lay-over}
@@ -143,8 +143,8 @@ module _ (g : Grammar) (formed : WellFormed g) (m : Stacks) (t : Tree) (o : Fore
 
   after-calls : (ts us : List Leaf) (isOver : Bool) (r : Record) (k : Stacks) → CallsUnder g m ts isOver r k → yield t ≡ ts ++ us → (isOver ≡ true → us ≡ []) → At ts isOver r k
   after-calls ts us isOver r k (opened e) read over = at-opening
-  after-calls ts us isOver r k (fed {ts = ts′} {r = r′} {m = k′} us′ t h q) read over = at-feed ts′ us′ us r′ k′ (read ∙ append-assoc ts′ us′ us) (after-calls ts′ (us′ ++ us) false r′ k′ h (read ∙ append-assoc ts′ us′ us) (λ e. absurd (apart (sym e))))
-  after-calls ts us isOver r k (finished {r = r′} {m = k′} h q) read over = at-finish ts r′ k′ (read ∙ (ap (λ (z : List Leaf). ts ++ z) (over refl) ∙ append-nil ts)) (after-calls ts us false r′ k′ h read (λ e. absurd (apart (sym e))))
+  after-calls ts us isOver r k (fed {ts = ts′} {r = r′} {m = k′} us′ t h q) read over = at-feed ts′ us′ us r′ k′ (read ∙ append-assoc ts′ us′ us) (after-calls ts′ (us′ ++ us) false r′ k′ h (read ∙ append-assoc ts′ us′ us) (λ e. absurd (true≢false (sym e))))
+  after-calls ts us isOver r k (finished {r = r′} {m = k′} h q) read over = at-finish ts r′ k′ (read ∙ (ap (λ (z : List Leaf). ts ++ z) (over refl) ∙ append-nil ts)) (after-calls ts us false r′ k′ h read (λ e. absurd (true≢false (sym e))))
 
   -- ---- demand 3
 

@@ -2,7 +2,7 @@
 use Prim.Native.Nat.{ℕ, suc, _+_, _-_, _*_, _≤_, _<_}
 use native.Mathlib.Omega.{arith}
 use mathlib.Core.Path.{_≡_, refl, sym, ap, _∙_, subst}
-use mathlib.Core.Bool.{Bool, true, false, _&&_, not, cond}
+use mathlib.Core.Bool.{Bool, true, false, _&&_, not, cond, true≢false}
 use mathlib.Core.List.{List, [], _∷_, _++_, map, append-assoc}
 use lib.ListN.{length, drop, replicate, length-append}
 use lib.Seq.{drop-append-add, drop-cons}
@@ -17,7 +17,7 @@ use Rattle.meaning.specs.Tree.{Tree, Forest, leaf, node, noTrees, treeAnd, yiel
 use Rattle.theory_base.specs.MoveCounts.{movesOf, movesIn}
 use Rattle.meaning.specs.Rules.{WellFormed}
 use Rattle.meaning.specs.Part.{config, frame, synsOf}
-use Rattle.theory_base.specs.Members.{true→T, apart}
+use Rattle.theory_base.specs.Members.{true→T}
 use Rattle.theory_base.specs.Frames.{place-waits}
 use Rattle.theory_base.specs.Walks.{allMoves, left-moves, left-width}
 use Rattle.theory_base.specs.WellFormed.{not-whole}
@@ -163,12 +163,12 @@ module _ (g : Grammar) (formed : WellFormed g) (lent : Lent) (late j : ℕ) (res
   mutual
     pub stops : (t : Tree) (us : List Leaf) (b : ℕ) (x : Symbol) (q : ℕ) (is : List Instruction) (fs : List Frame) (rs : List ℤ) (n m : ℕ)
         → Foreseen g us t → TreeExpected fitting g lent t x fs rs m → Cut (yield t ++ us) b → isOpened j b ≡ true → isLeft j b t ≡ false → StopsIn us t b x q is fs rs n m
-    stops (leaf t) us b x q is fs rs n m o r c h l = absurd (apart (sym h ∙ l))
+    stops (leaf t) us b x q is fs rs n m o r c h l = absurd (true≢false (sym h ∙ l))
     stops (node p vs f) us b x q is fs rs n m o r c h l = node-stops us p vs f b x q is fs rs n m o r c h (stops-among f us b p vs f 0 x q is fs rs n (suc m) (o .1) (node-ready fitting g formed lent 0 p vs f x fs rs m r) c (below-opened b h) (unleft b f h l))
 
     pub stops-among : (f : Forest) (us : List Leaf) (b p : ℕ) (vs : List ℤ) (all : Forest) (k : ℕ) (x : Symbol) (q : ℕ) (is : List Instruction) (fs : List Frame) (rs : List ℤ) (n m : ℕ)
         → Foreseens g us f → Readies fitting g lent f p vs all k fs rs m → Cut (yields f ++ us) b → b ≤ j → areLeft j b f ≡ false → StopsAmong us f b p vs all k x q is fs rs n m
-    stops-among noTrees us b p vs all k x q is fs rs n m o r c h a = absurd (apart a)
+    stops-among noTrees us b p vs all k x q is fs rs n m o r c h a = absurd (true≢false a)
     stops-among (treeAnd t f) us b p vs all k x q is fs rs n m o r c h a =
         more-stops us t f b p vs all k x q is fs rs n m o r c h a
         (λ w l. stops t (yields f ++ us) b (symbolAt (productionAt g p) (suc k)) p (afterward g (productionAt g p) k) (frame q (expect x ∷ is) ∷ fs) (during g p vs all rs k) n

@@ -11,6 +11,7 @@ use lib.IntN.{ℤ, pos, negℤ, _+ℤ_, +ℤ-idl, +ℤ-idr}
 use lib.ListN.{getD, length, length-set}
 use lib.Seq.{ext-getD}
 use lib.Signed.{leZ, _≤ℤ_, ≤ℤ-refl}
+use Rattle.meaning.specs.Limits.{attributesLimit}
 use Rattle.meaning.specs.Base.{In, all, countFrom}
 use Rattle.meaning.specs.Grammar.{Condition, range, atmost}
 use Rattle.meaning.specs.Value.{added, holds}
@@ -139,7 +140,7 @@ stands-range l n cs a x y p s = stands-more l (lowered m 0 a (negℤ x)) n cs (r
 abbrev pub Fresh : ℕ → List ℤ → Type 0
 Fresh n l = Every (λ i j x. x ≡ bound n i +ℤ bound n j) l
 
-pub stands-fresh : (l : List ℤ) (n : ℕ) → n ≤ 8 → length l ≡ 81 → Fresh n l → EntriesAreWalks l n []
+pub stands-fresh : (l : List ℤ) (n : ℕ) → n ≤ attributesLimit → length l ≡ 81 → Fresh n l → EntriesAreWalks l n []
 unfolding bound
 stands-fresh l n p e f =
     record {
@@ -186,15 +187,15 @@ stands-constrained : (c : Condition ℕ) (l : List ℤ) (n : ℕ) (cs : List (Co
 stands-constrained (range a x y) l n cs p s = stands-range l n cs a x y p s
 stands-constrained (atmost a b c) l n cs p s = stands-atmost l n cs a b c (p .0) (p .1) s
 
-pub stands-matrix : (n : ℕ) (cs : List (Condition ℕ)) → n ≤ 8 → AllKnown cs → EntriesAreWalks (matrixOf n cs) n cs
+pub stands-matrix : (n : ℕ) (cs : List (Condition ℕ)) → n ≤ attributesLimit → AllKnown cs → EntriesAreWalks (matrixOf n cs) n cs
 stands-matrix n [] p f = stands-fresh (matrixOf n []) n p (fresh-size n) (fresh-list n)
 stands-matrix n (c ∷ cs) p f = stands-constrained c (matrixOf n cs) n cs (f c (inl refl)) (stands-matrix n cs p (λ d m. f d (inr m)))
 
 -- 02 (j): "the check finds such values or shows that the differences close a cycle with a negative sum, bounds counted in"
-pub values-or-cycle : (n : ℕ) (cs : List (Condition ℕ)) → n ≤ 8 → AllKnown cs → Satisfiable n cs ⊎ NegativeCycle n cs
+pub values-or-cycle : (n : ℕ) (cs : List (Condition ℕ)) → n ≤ attributesLimit → AllKnown cs → Satisfiable n cs ⊎ NegativeCycle n cs
 values-or-cycle n cs p f = either (matrixOf n cs) n cs (stands-matrix n cs p f)
 
-pub satisfiable-exactly : (n : ℕ) (cs : List (Condition ℕ)) → n ≤ 8 → AllKnown cs → Satisfiable n cs ↔ (NegativeCycle n cs → ⊥)
+pub satisfiable-exactly : (n : ℕ) (cs : List (Condition ℕ)) → n ≤ attributesLimit → AllKnown cs → Satisfiable n cs ↔ (NegativeCycle n cs → ⊥)
 satisfiable-exactly n cs p f = (no-negative-cycle n cs f, λ k. go k (values-or-cycle n cs p f))
   where
     go : (NegativeCycle n cs → ⊥) → Satisfiable n cs ⊎ NegativeCycle n cs → Satisfiable n cs
@@ -209,10 +210,10 @@ none-negative l t k h = record { le = all-in (λ k. leZ (pos 0) (at l k k)) (cou
 pub all-none-negative : (l : List ℤ) → NoneNegative (at l) 9 → T (noneNegative l)
 all-none-negative l f = in-all (λ k. leZ (pos 0) (at l k k)) (countFrom 0 9) (λ k i. f k (from-in 0 9 k i .1) .le)
 
-pub solvable-values : (n : ℕ) (cs : List (Condition ℕ)) → n ≤ 8 → AllKnown cs → T (solvable n cs) → Satisfiable n cs
+pub solvable-values : (n : ℕ) (cs : List (Condition ℕ)) → n ≤ attributesLimit → AllKnown cs → T (solvable n cs) → Satisfiable n cs
 solvable-values n cs p f t = record { values = _; meets = found (matrixOf n cs) n cs (stands-matrix n cs p f) (none-negative (closed (matrixOf n cs)) t) }
 
-pub values-solvable : (n : ℕ) (cs : List (Condition ℕ)) → n ≤ 8 → AllKnown cs → Satisfiable n cs → T (solvable n cs)
+pub values-solvable : (n : ℕ) (cs : List (Condition ℕ)) → n ≤ attributesLimit → AllKnown cs → Satisfiable n cs → T (solvable n cs)
 values-solvable n cs p f s = go (diagonal (at (closed (matrixOf n cs))) 9)
   where
     go : Diagonal (at (closed (matrixOf n cs))) 9 → T (solvable n cs)
@@ -221,7 +222,7 @@ values-solvable n cs p f s = go (diagonal (at (closed (matrixOf n cs))) 9)
 
 -- ---- neither the order of the conditions nor their doubling plays a part
 
-module _ (n : ℕ) (few : n ≤ 8) (cs ds : List (Condition ℕ)) (f : AllKnown cs) (into : (c : Condition ℕ) → In c ds → In c cs) where
+module _ (n : ℕ) (few : n ≤ attributesLimit) (cs ds : List (Condition ℕ)) (f : AllKnown cs) (into : (c : Condition ℕ) → In c ds → In c cs) where
   fewer : Satisfiable n cs → Satisfiable n ds
   fewer s =
       let v = s .values in
@@ -231,5 +232,5 @@ module _ (n : ℕ) (few : n ≤ 8) (cs ds : List (Condition ℕ)) (f : AllKnown 
   pub solvable-fewer : T (solvable n cs) → T (solvable n ds)
   solvable-fewer t = values-solvable n ds few (λ c i. f c (into c i)) (fewer (solvable-values n cs few f t))
 
-pub solvable-same : (n : ℕ) → n ≤ 8 → (cs ds : List (Condition ℕ)) → AllKnown cs → ((c : Condition ℕ) → In c ds → In c cs) → ((c : Condition ℕ) → In c cs → In c ds) → solvable n cs ≡ solvable n ds
+pub solvable-same : (n : ℕ) → n ≤ attributesLimit → (cs ds : List (Condition ℕ)) → AllKnown cs → ((c : Condition ℕ) → In c ds → In c cs) → ((c : Condition ℕ) → In c cs → In c ds) → solvable n cs ≡ solvable n ds
 solvable-same n few cs ds f into from = same-truth (solvable n cs) (solvable n ds) (solvable-fewer n few cs ds f into) (solvable-fewer n few ds cs (λ c i. f c (into c i)) from)

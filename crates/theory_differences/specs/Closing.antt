@@ -8,6 +8,7 @@ use lib.IntN.{ℤ, pos, natAbs, _+ℤ_}
 use lib.ListN.{length, length-set}
 use lib.Seq.{getD-set-same, getD-set-other}
 use lib.Signed.{_≤ℤ_, ≤ℤ-refl}
+use Rattle.meaning.specs.Limits.{attributesLimit}
 use Rattle.meaning.specs.Differences.{at, put, lesser, shorter, rowRelaxed, relaxed, eliminated, closing, closed}
 use Rattle.theory_differences.specs.Order.{lesser-first, lesser-second, lesser-keeps, ≤-is, ≤-trans}
 use Rattle.theory_base.specs.Absolute.{natAbs-add}
@@ -193,10 +194,10 @@ pub closing-small : (l : List ℤ) (k : ℕ) → length l ≡ 81 → k < 9 → S
 closing-small l zero e p f = f
 closing-small l (suc k) e p f = closing-small (eliminated l (suc k)) k (rows l (suc k) (suc k) e p (omega arith) .size) (omega arith) (eliminated-small l k e p f)
 
-pub closed-small : (l : List ℤ) → length l ≡ 81 → Small (room 8) l → Small 576460752303423488 (closed l)
+pub closed-small : (l : List ℤ) → length l ≡ 81 → Small (room attributesLimit) l → Small 576460752303423488 (closed l)
 unfolding closed
-closed-small l e f = closing-small l 8 e (omega arith) f
+closed-small l e f = closing-small l attributesLimit e (omega arith) f
 
 pub closed-size : (l : List ℤ) → length l ≡ 81 → length (closed l) ≡ 81
 unfolding closed
-closed-size l e = closing-size l 8 e (omega arith)
+closed-size l e = closing-size l attributesLimit e (omega arith)

@@ -10,6 +10,7 @@ use lib.Dec.{T}
 use lib.IntN.{ℤ, pos, negℤ, _+ℤ_, +ℤ-idl}
 use lib.ListN.{getD, length, List·getD-eq-default}
 use lib.Signed.{leZ, _≤ℤ_, _<ℤ_}
+use Rattle.meaning.specs.Limits.{attributesLimit}
 use Rattle.meaning.specs.Base.{all, In}
 use Rattle.meaning.specs.Grammar.{Condition, range, atmost}
 use Rattle.meaning.specs.Value.{inRange, lowest, highest, added, holds}
@@ -23,7 +24,7 @@ use Rattle.theory_differences.specs.Closing.{closing-every, closing-lowe
 
 -- each entry is the length of a walk, and no edge is shorter than its entry
 pub record EntriesAreWalks (l : List ℤ) (n : ℕ) (cs : List (Condition ℕ)) : Type 0 where
-  pub fits : n ≤ 8
+  pub fits : n ≤ attributesLimit
   pub size : length l ≡ 81
   pub known : AllKnown cs
   pub walks : Every (Walk n cs) l
@@ -33,7 +34,7 @@ pub record EntriesAreWalks (l : List ℤ) (n : ℕ) (cs : List (Condition ℕ)) 
 
 pub cycle : (l : List ℤ) (n : ℕ) (cs : List (Condition ℕ)) → EntriesAreWalks l n cs → (k : ℕ) → k < 9 → at (closed l) k k <ℤ pos 0 → NegativeCycle n cs
 unfolding closed
-cycle l n cs s k p h = record { node = k; sum = at (closing l 8) k k; walk = closing-every (Walk n cs) (λ i k j x y. join) l 8 (s .size) (omega arith) (s .walks) k k p p; negative = h }
+cycle l n cs s k p h = record { node = k; sum = at (closing l attributesLimit) k k; walk = closing-every (Walk n cs) (λ i k j x y. join) l attributesLimit (s .size) (omega arith) (s .walks) k k p p; negative = h }
 
 -- ---- otherwise the solution of the eliminated matrix meets the conditions
 
@@ -58,13 +59,13 @@ module _ (n : ℕ) (cs : List (Condition ℕ)) (v : ℕ → ℤ) (z : v 0 ≡ po
   low : (a : ℕ) (l : ℤ) → Keeps v 0 a (negℤ l) → l ≤ℤ v a
   low a l h = to-below l (v a) (≤-trans (≤-is (sym z)) h)
 
-  absent : (a : ℕ) → a < 8 → n ≤ a → pos 0 ≡ v (suc a)
+  absent : (a : ℕ) → a < attributesLimit → n ≤ a → pos 0 ≡ v (suc a)
   absent a p h =
       let e = bound-absent n a h in
       only-zero (v (suc a)) (high (suc a) (pos 0) (rw e at (k (suc a) 0 (bound n (suc a)) (highestEdge (suc a)) (omega arith) (omega arith)))) (low (suc a) (pos 0) (rw e at (k 0 (suc a) (bound n (suc a)) (lowestEdge (suc a)) (omega arith) (omega arith))))
 
   -- the list reads as the nodes do, also past its end
-  at-node : (a : ℕ) → a < 8 → getD (listed v 1 n) a (pos 0) ≡ v (suc a)
+  at-node : (a : ℕ) → a < attributesLimit → getD (listed v 1 n) a (pos 0) ≡ v (suc a)
   at-node a p = go (decLt a n)
     where
       go : Dec (a < n) → getD (listed v 1 n) a (pos 0) ≡ v (suc a)
@@ -75,7 +76,7 @@ module _ (n : ℕ) (cs : List (Condition ℕ)) (v : ℕ → ℤ) (z : v 0 ≡ po
   read zero p = absurd (omega (arith, p .0))
   read (suc a) p = ap (λ (b : ℕ). getD (listed v 1 n) b (pos 0)) (omega arith) ∙ at-node a (omega (arith, p .1))
 
-  in-range : (a : ℕ) → a < 8 → a < n → T (inRange (getD (listed v 1 n) a (pos 0)))
+  in-range : (a : ℕ) → a < attributesLimit → a < n → T (inRange (getD (listed v 1 n) a (pos 0)))
   in-range a p h =
       let e = bound-there n a h in
       rw (at-node a p)
@@ -95,24 +96,24 @@ module _ (n : ℕ) (cs : List (Condition ℕ)) (v : ℕ → ℤ) (z : v 0 ≡ po
       let r = p .1 .1 in
       rw (read a (p .0), read b (p .1)) (k a b (added c) (atmostEdge a b c m) (omega arith) (omega arith) .le)
 
-  pub satisfied : n ≤ 8 → AllKnown cs → Meets n cs (listed v 1 n)
+  pub satisfied : n ≤ attributesLimit → AllKnown cs → Meets n cs (listed v 1 n)
   satisfied f g = record {
     size = length-listed v 1 n;
     ranged = at-all inRange (pos 0) (listed v 1 n) (λ a h. in-range a (omega (arith, h, length-listed v 1 n, f)) (omega (arith, h, length-listed v 1 n)));
     each = in-all (holds (valueIn (listed v 1 n))) cs (λ c m. met c m (g c m));
   }
 
-pub found : (l : List ℤ) (n : ℕ) (cs : List (Condition ℕ)) → EntriesAreWalks l n cs → NoneNegative (at (closed l)) 9 → Meets n cs (listed (solution (at (closed l)) 8) 1 n)
+pub found : (l : List ℤ) (n : ℕ) (cs : List (Condition ℕ)) → EntriesAreWalks l n cs → NoneNegative (at (closed l)) 9 → Meets n cs (listed (solution (at (closed l)) attributesLimit) 1 n)
 unfolding closed
-found l n cs s h = satisfied n cs (solution M 8) (solution-zero M 8) keeps (s .fits) (s .known)
+found l n cs s h = satisfied n cs (solution M attributesLimit) (solution-zero M attributesLimit) keeps (s .fits) (s .known)
   where
     M : ℕ → ℕ → ℤ
-    M = at (closing l 8)
+    M = at (closing l attributesLimit)
 
-    keeps : (i j : ℕ) (w : ℤ) → Edge n cs i j w → i < 9 → j < 9 → Keeps (solution M 8) i j w
+    keeps : (i j : ℕ) (w : ℤ) → Edge n cs i j w → i < 9 → j < 9 → Keeps (solution M attributesLimit) i j w
     keeps i j w e p q =
-        ≤-trans (solution-keeps M 8 (closing-eliminated l 8 (s .size) (omega arith)) h i j (omega arith) (omega arith))
-        (plus-left (solution M 8 j) (≤-trans (closing-lower l 8 (s .size) (omega arith) i j q) (s .covers i j w e p q)))
+        ≤-trans (solution-keeps M attributesLimit (closing-eliminated l attributesLimit (s .size) (omega arith)) h i j (omega arith) (omega arith))
+        (plus-left (solution M attributesLimit j) (≤-trans (closing-lower l attributesLimit (s .size) (omega arith) i j q) (s .covers i j w e p q)))
 
 -- ---- one or the other
 
@@ -137,7 +138,7 @@ pub either : (l : List ℤ) (n : ℕ) (cs : List (Condition ℕ)) → EntriesAre
 either l n cs s = go (diagonal (at (closed l)) 9)
   where
     go : Diagonal (at (closed l)) 9 → Satisfiable n cs ⊎ NegativeCycle n cs
-    go (clear f) = inl (record { values = listed (solution (at (closed l)) 8) 1 n; meets = found l n cs s f })
+    go (clear f) = inl (record { values = listed (solution (at (closed l)) attributesLimit) 1 n; meets = found l n cs s f })
     go (negative k p h) = inr (cycle l n cs s k p h)
 
 -- ---- what the code says

@@ -10,6 +10,7 @@ use lib.Dec.{T, ltb, ltb→lt, nltb→le}
 use lib.IntN.{ℤ, pos, _+ℤ_, +ℤ-idl, +ℤ-idr}
 use lib.ListN.{getD, length, List·getD-eq-default}
 use lib.Signed.{leZ, _≤ℤ_, ≤ℤ-refl, clashℤ}
+use Rattle.meaning.specs.Limits.{attributesLimit}
 use Rattle.meaning.specs.Base.{all, In}
 use Rattle.meaning.specs.Grammar.{Condition, range, atmost}
 use Rattle.meaning.specs.Value.{inRange, lowest, highest, added, holds}
@@ -20,7 +21,7 @@ use Rattle.theory_differences.specs.Order.{≤-is, ≤-trans, through, c
 
 -- the attributes of a condition have nodes
 abbrev pub Node : ℕ → Type 0
-Node a = (0 < a) × (a ≤ 8)
+Node a = (0 < a) × (a ≤ attributesLimit)
 
 abbrev pub Known : Condition ℕ → Type 0
 Known (range a l h) = Node a

@@ -27,6 +27,7 @@ use Rattle.meaning_ranking.specs.RankingStatements.{numbered, isRefusal, candid
 use Rattle.theory_base.specs.Feeds.{even-feed}
 use Rattle.theory_table.specs.AcceptedTable.{accepted-well-formed}
 use Rattle.theory_sound.specs.CallSound.{opening-sound, feed-is}
+use Rattle.theory_sound.specs.ValueSound.{not-value}
 use Rattle.theory_demands.specs.ByGrammar.{opens-is, performs-is}
 use Rattle.theory_demands.specs.ValueWhole.{value-whole}
 use Rattle.theory_evaluating.specs.Whole.{is-open, opened-31, opened-32, evaluated-31, evaluated-32}
@@ -40,9 +41,6 @@ Alike v n a b = (a ≡ b) ⊎ ((a ≡ Calls.value v n → ⊥) × (b ≡ Calls.v
 alike-both : (v : ℤ) (n : ℕ) (a b : Answer) → Alike v n a b → (a ≡ Calls.value v n) ↔ (b ≡ Calls.value v n)
 alike-both v n a b (inl e) = ((λ x. sym e ∙ x), (λ x. e ∙ x))
 alike-both v n a b (inr z) = ((λ x. absurd (z .0 x)), (λ x. absurd (z .1 x)))
-
-not-value : {v : ℤ} {n k j : ℕ} → refused k j ≡ Calls.value v n → ⊥
-not-value e = let z : _≡_ {A = ℕ} 0 1 = cc in omega arith
 
 module _ (g : Grammar) (f : WellFormed g) (m : Stacks) (ks : List ℕ) (vs : List ℤ) (even : length ks ≡ length vs) (v : ℤ) (n : ℕ) where
   -- a feed and a finish, whatever the calls before answered

@@ -2,7 +2,7 @@
 use Prim.Native.Nat.{ℕ, _≤_}
 use mathlib.Core.Path.{_≡_, refl, sym, ap, ap₂, _∙_, subst}
 use mathlib.Core.Logic.{_⊎_, inl, inr}
-use mathlib.Core.Bool.{Bool, true, false, _&&_, _||_}
+use mathlib.Core.Bool.{Bool, true, false, _&&_, _||_, or-true, false≢true}
 use mathlib.Core.List.{List}
 use lib.ListN.{length}
 use lib.Dec.{T, ltb, ltb→lt, nltb→le, eqb, eqb-refl, eqb→eq}
@@ -23,19 +23,16 @@ use Rattle.theory_inner.specs.Cases.{by-accepted, by-refused}
 
 -- ---- the records
 
-pub never : {A : Type 0} → false ≡ true → A
-never e = absurd (subst T (sym e) tt)
-
 abbrev fitting : Status → Kind → Status → Kind → ℕ → ℕ → Bool
 fitting a b c d h p = isWaiting a && isOuter b && isRunning c && beginsAt d h p
 
 fitted : (a : Status) (b : Kind) (c : Status) (d : Kind) (h p : ℕ) → fitting a b c d h p ≡ true → (a ≡ waiting) × (b ≡ outer) × (c ≡ running) × (d ≡ inner h p)
-fitted running b c d h p e = never e
-fitted closed b c d h p e = never e
-fitted waiting (inner x y) c d h p e = never e
-fitted waiting outer waiting d h p e = never e
-fitted waiting outer closed d h p e = never e
-fitted waiting outer running outer h p e = never e
+fitted running b c d h p e = absurd (false≢true e)
+fitted closed b c d h p e = absurd (false≢true e)
+fitted waiting (inner x y) c d h p e = absurd (false≢true e)
+fitted waiting outer waiting d h p e = absurd (false≢true e)
+fitted waiting outer closed d h p e = absurd (false≢true e)
+fitted waiting outer running outer h p e = absurd (false≢true e)
 fitted waiting outer running (inner x y) h p e = let t = both (eqb h x) (eqb p y) (subst T (sym e) tt) in (refl, refl, refl, ap₂ inner (sym (eqb→eq h x (t .0))) (sym (eqb→eq p y (t .1))))
 
 module _ (o i : Record) where
@@ -65,16 +62,12 @@ not-closed waiting e = refl
 not-closed closed e = absurd (e refl)
 
 is-closed : (s : Status) → isClosed s ≡ true → s ≡ closed
-is-closed running e = never e
-is-closed waiting e = never e
+is-closed running e = absurd (false≢true e)
+is-closed waiting e = absurd (false≢true e)
 is-closed closed e = refl
 
 not-so : (s : Status) → isClosed s ≡ false → s ≡ closed → ⊥
 not-so s e q = absurd (subst T (sym (ap isClosed q) ∙ e) tt)
-
-or-true : (b : Bool) → b || true ≡ true
-or-true true = refl
-or-true false = refl
 
 either : (o i : Record) → (o .status ≡ closed) ⊎ (i .status ≡ closed) → isClosed (o .status) || isClosed (i .status) ≡ true
 either o i (inl e) = ap (λ s. isClosed s || isClosed (i .status)) e
@@ -122,7 +115,7 @@ module _ (bs area : List ℕ) (o i : Record) where
     where
       both-open : areaLength ≤ length area → (g : Grammar) → Accepted bs g → isClosed (o .status) ≡ false → isClosed (i .status) ≡ false → (y : Bool) → belongs o i ≡ y → InnerCase bs area o i
       both-open l g a p q true e = byEngine l g a (belongs-is o i e)
-      both-open l g a p q false e = apart l g a (not-so (o .status) p) (not-so (i .status) q) (λ b. never (sym e ∙ is-belongs o i b))
+      both-open l g a p q false e = apart l g a (not-so (o .status) p) (not-so (i .status) q) (λ b. absurd (false≢true (sym e ∙ is-belongs o i b)))
 
       records : areaLength ≤ length area → (g : Grammar) → Accepted bs g → (x y : Bool) → isClosed (o .status) ≡ x → isClosed (i .status) ≡ y → InnerCase bs area o i
       records l g a true y p q = eitherClosed l g a (inl (is-closed (o .status) p))

@@ -1,7 +1,7 @@
 -- 02 (h), proved: the statements of meaning's InnerStatements on lists of calls.
 use Prim.Native.Nat.{ℕ, _-_}
 use mathlib.Core.Path.{_≡_, refl, sym, ap, ap₂, _∙_, subst}
-use mathlib.Core.Bool.{true}
+use mathlib.Core.Bool.{true, true≢false, false≢true}
 use mathlib.Core.List.{List, [], _∷_, map}
 use lib.ListN.{length}
 use Rattle.meaning.specs.Grammar.{Grammar}
@@ -14,7 +14,6 @@ use Rattle.theory_inner.specs.Stretch.{above-registers, above-places, pa
 use Rattle.theory_inner.specs.OpenRunKept.{open-record}
 use Rattle.theory_inner.specs.InnerAlone.{BesideAlone, stands, ended, closing, closing-engine, step}
 use Rattle.theory_inner.specs.InnerOpened.{open-outer, begun}
-use Rattle.theory_inner.specs.Calling.{never}
 
 module _ (program : Grammar → List ℕ) (t n rh ph : ℕ) (m : Stacks) where
   -- ---- where the two stand beside each other
@@ -25,11 +24,11 @@ module _ (program : Grammar → List ℕ) (t n rh ph : ℕ) (m : Stacks) where
 
   same-cells : {b : Both} {a : Alone} → BesideAlone t n rh ph m b a → isOpen (a .state) ≡ true → above (inner rh ph) (b .stacks) ≡ a .stacks
   same-cells (stands u v h p part f) z = paste-above (inner rh ph) m part f
-  same-cells (ended u v h p part) z = never z
+  same-cells (ended u v h p part) z = absurd (false≢true z)
 
   same-before : {b : Both} {a : Alone} → BesideAlone t n rh ph m b a → isOpen (a .state) ≡ true → (s : CallWithTable Call) → performs program (s .table) (s .area) (alone (b .innerState)) (above (b .innerState .kind) (b .stacks)) (s .call) ≡ performsAlone program a s
   same-before (stands u v h p part f) z s = ap (λ q. performs program (s .table) (s .area) (open-record u v h p) q (s .call)) (paste-above (inner rh ph) m part f)
-  same-before (ended u v h p part) z s = never z
+  same-before (ended u v h p part) z s = absurd (false≢true z)
 
   pub as-alone : cleared (above (inner rh ph) m) ≡ above (inner rh ph) m → (b : Both) (a : Alone) → BesideAlone t n rh ph m b a → AsAlone program (inner rh ph) b a
   as-alone isClear b a st = record {
@@ -41,8 +40,8 @@ module _ (program : Grammar → List ℕ) (t n rh ph : ℕ) (m : Stacks) where
   }
 
   kept : {b : Both} {a : Alone} → BesideAlone t n rh ph m b a → Kept (open-record t n rh ph) m b
-  kept (stands u v h p part f) = record { isBelow = paste-below (inner rh ph) m part f; pastRegisters = past-registers (inner rh ph) m part f; pastPlaces = past-places (inner rh ph) m part f; waits = λ z. refl; restored = λ z. never z }
-  kept (ended u v h p part) = record { isBelow = refl; pastRegisters = refl; pastPlaces = refl; waits = λ z. never (sym z); restored = λ z. (refl, refl) }
+  kept (stands u v h p part f) = record { isBelow = paste-below (inner rh ph) m part f; pastRegisters = past-registers (inner rh ph) m part f; pastPlaces = past-places (inner rh ph) m part f; waits = λ z. refl; restored = λ z. absurd (false≢true z) }
+  kept (ended u v h p part) = record { isBelow = refl; pastRegisters = refl; pastPlaces = refl; waits = λ z. absurd (true≢false z); restored = λ z. (refl, refl) }
 
   -- ---- lists of calls
 

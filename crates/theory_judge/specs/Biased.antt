@@ -6,12 +6,8 @@ use mathlib.Core.Path.{_≡_, sym, ap, _∙_, subst}
 use mathlib.Core.List.{List}
 use mathlib.Core.Bool.{true, false, cond}
 use lib.IntN.{ℤ, pos, negsuc, _-ℤ_}
-use lib.Signed.{leZ}
 use borrow.Author.Tests.{lt-ltb, le-ltb}
-use mir.Syntax.{w32, w64}
-use lib.Dec.{T, le→leb}
-use Rattle.meaning.specs.Rules.{fourBytes}
-use Rattle.theory_base.specs.Members.{and}
+use mir.Syntax.{w64}
 use mir.Val.{SFits}
 use Rattle.meaning.specs.Value.{inRange, mark}
 use Rattle.value.specs.Ranged.{ranged, ranged-in, in-ranged}
@@ -72,8 +68,3 @@ module _ (bytes : List ℕ) (at n b : ℕ) (small : n < 18446744073709551616) (r
   pub far-at : 9223372036854775808 ≤ b → ranged mark ≡ ranged (longAt bytes at)
   unfolding longAt
   far-at h = far-ranged (longAt bytes at) (ap (λ k. inRange (longOf k)) (sym read) ∙ far n small (omega arith))
-
--- a signed 32-bit value has four bytes
-pub four-of : (v : ℤ) → SFits w32 v → T (fourBytes v)
-four-of (pos n) f = le→leb n 2147483647 (omega (arith, f .sfits))
-four-of (negsuc n) f = and (leZ (negsuc 2147483647) (negsuc n)) true (le→leb n 2147483647 (omega (arith, f .sfits))) tt

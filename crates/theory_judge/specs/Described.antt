@@ -15,7 +15,7 @@ use Rattle.meaning.specs.Tree.{Tree, Forest, leaf, node, noTrees, treeAnd, yiel
 use Rattle.meaning.specs.Drawn.{depth, depths}
 use Rattle.meaning_sheet.specs.Sheet.{recordBytes, valueBytes, sheet, sheets}
 use Rattle.value.specs.Constants.{wordAt}
-use Rattle.theory_sheet.specs.Overlay.{values-length}
+use Rattle.theory_sheet.specs.Overlay.{values-length, record-length}
 use Rattle.theory_judge.specs.Longs.{drop-past, cons-one, word-back, word-there, longs, longs-size, longs-read, longs-there}
 
 -- ---- one record
@@ -29,16 +29,13 @@ pub record RecordRead (bytes : List ℕ) (at p before covered : ℕ) (vs : List 
   pub values : longs bytes (at + 12) (length vs) ≡ vs
   pub behind : drop (at + 12 + 8 * length vs) bytes ≡ rest
 
-pub record-size : (p b w : ℕ) (vs : List ℤ) → length (recordBytes p b w vs) ≡ 12 + 8 * length vs
-record-size p b w vs = omega (arith, values-length vs)
-
 pub record-read : (bytes : List ℕ) (at p b w : ℕ) (vs : List ℤ) (rest : List ℕ) → p < 4294967296 → b < 4294967296 → w < 4294967296 → T (all inRange vs) → drop at bytes ≡ recordBytes p b w vs ++ rest → RecordRead bytes at p b w vs rest
 record-read bytes at p b w vs rest lp lb lw t e =
     let e₁ : drop (at + 4) bytes ≡ fourBytes b ++ (fourBytes w ++ (valueBytes vs ++ rest)) = drop-past bytes (fourBytes p) (fourBytes b ++ (fourBytes w ++ (valueBytes vs ++ rest))) at e in
     let e₂ : drop (at + 8) bytes ≡ fourBytes w ++ (valueBytes vs ++ rest) = ap (λ i. drop i bytes) four ∙ drop-past bytes (fourBytes b) (fourBytes w ++ (valueBytes vs ++ rest)) (at + 4) e₁ in
     let e₃ : drop (at + 12) bytes ≡ valueBytes vs ++ rest = ap (λ i. drop i bytes) eight ∙ drop-past bytes (fourBytes w) (valueBytes vs ++ rest) (at + 8) e₂ in
     record {
-      inside = omega (arith, ap length e, length-drop at bytes, length-append (recordBytes p b w vs) rest, record-size p b w vs);
+      inside = omega (arith, ap length e, length-drop at bytes, length-append (recordBytes p b w vs) rest, record-length p b w vs);
       production = word-back bytes at p (fourBytes b ++ (fourBytes w ++ (valueBytes vs ++ rest))) lp e;
       tokensBefore = word-back bytes (at + 4) b (fourBytes w ++ (valueBytes vs ++ rest)) lb e₁;
       tokensCovered = word-back bytes (at + 8) w (valueBytes vs ++ rest) lw e₂;
@@ -180,7 +177,7 @@ module _ (g : Grammar) (formed : WellFormed g) (us : List Leaf) (few : length us
               shallow = omega (arith, l);
               stands = record {
                 written = subst (λ i. drop i bytes ≡ sheets from f ++ drop n bytes) size (r .behind);
-                sheetEnd = omega (arith, s .sheetEnd, length-append (recordBytes p from (length (yields f)) vs) (sheets from f), record-size p from (length (yields f)) vs, own .size);
+                sheetEnd = omega (arith, s .sheetEnd, length-append (recordBytes p from (length (yields f)) vs) (sheets from f), record-length p from (length (yields f)) vs, own .size);
                 tokens = s .tokens;
                 tokensEnd = s .tokensEnd;
               };
@@ -216,7 +213,7 @@ module _ (g : Grammar) (formed : WellFormed g) (us : List Leaf) (few : length us
         shallow = omega (arith, h .deep, h .children .shallow);
         stands = record {
           written = there ∙ (ap (λ c. c ++ drop (at + 12 + 8 * att g (nonterminal m)) bytes) head ∙ (ap (λ r. recordBytes p from (length (yields f)) vs ++ r) (s .written) ∙ sym (append-assoc (recordBytes p from (length (yields f)) vs) (sheets from f) (drop n bytes))));
-          sheetEnd = omega (arith, s .sheetEnd, length-append (recordBytes p from (length (yields f)) vs) (sheets from f), record-size p from (length (yields f)) vs, size);
+          sheetEnd = omega (arith, s .sheetEnd, length-append (recordBytes p from (length (yields f)) vs) (sheets from f), record-length p from (length (yields f)) vs, size);
           tokens = s .tokens;
           tokensEnd = s .tokensEnd;
         };

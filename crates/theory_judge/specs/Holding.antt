@@ -2,7 +2,7 @@
 use Prim.Native.Nat.{ℕ, _+_, _-_, _≤_, _<_}
 use native.Mathlib.Omega.{arith}
 use mathlib.Core.Path.{_≡_, refl, sym, ap, ap₂, _∙_}
-use mathlib.Core.Bool.{Bool, true, false, _&&_, cond}
+use mathlib.Core.Bool.{Bool, true, false, _&&_, cond, and-assoc}
 use mathlib.Core.List.{List, _∷_, _++_}
 use mathlib.Core.Option.{none, some}
 use lib.ListN.{length, take, drop, length-drop}
@@ -97,17 +97,13 @@ module _ (v : Occurrence → ℤ) where
 abbrev pub listedTrue : (Occurrence → ℤ) → {d : List ℕ} → Listed d → Bool
 listedTrue v x = allTrue v (x .rules) (x .conditions)
 
-and-joined : (a b c : Bool) → (a && b) && c ≡ a && (b && c)
-and-joined true b c = refl
-and-joined false b c = refl
-
 -- what a walk learns of the first field d, of the rules and conditions before it is passed, and of those behind it
 abbrev Truth : Fact
 Truth d rs cs rs′ cs′ = (v : Occurrence → ℤ) → allTrue v rs cs ≡ fieldTrue v d && allTrue v rs′ cs′
 
 rule-truth : (r : Rule Occurrence) (rs : List (Rule Occurrence)) (cs : List (Condition Occurrence)) (bs : List ℕ) → Constant (r .function) → Truth (field 4 (ruleBytes r) ++ bs) (r ∷ rs) cs rs cs
 unfolding allTrue
-rule-truth r rs cs bs constant v = and-joined (ruleTrue v r) (all (ruleTrue v) rs) (all (holds v) cs) ∙ ap (λ b. b && allTrue v rs cs) (sym (rule-field v r bs constant))
+rule-truth r rs cs bs constant v = and-assoc (ruleTrue v r) (all (ruleTrue v) rs) (all (holds v) cs) ∙ ap (λ b. b && allTrue v rs cs) (sym (rule-field v r bs constant))
 
 condition-truth : (c : Condition Occurrence) (rs : List (Rule Occurrence)) (cs : List (Condition Occurrence)) (bs : List ℕ) → Proper c → Truth (field 5 (conditionBytes c) ++ bs) rs (c ∷ cs) rs cs
 unfolding allTrue

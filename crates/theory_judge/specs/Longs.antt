@@ -12,6 +12,7 @@ use lib.Dec.{T, ltb, leb→le}
 use lib.IntN.{ℤ, pos, negsuc}
 use lib.Signed.{leZ}
 use borrow.Author.Tests.{lt-ltb, le-ltb}
+use Rattle.value.specs.Overflow.{reach}
 use Rattle.meaning.specs.Base.{all}
 use Rattle.meaning.specs.Layout.{fourBytes, Bytes}
 use Rattle.meaning.specs.Table.{byte}
@@ -105,8 +106,8 @@ unfolding longOf
 long-high n l = ap (λ c. longIf c n) (le-ltb n 9223372036854775808 l)
 
 -- a value in range needs far less than 64 bits
-in-low : (n : ℕ) → T (inRange (pos n)) → n ≤ 1000000000000
-in-low n t = leb→le n 1000000000000 t
+in-low : (n : ℕ) → T (inRange (pos n)) → n ≤ reach
+in-low n t = leb→le n reach t
 
 in-high : (n : ℕ) → T (inRange (negsuc n)) → n ≤ 999999999999
 in-high n t = leb→le n 999999999999 (both (leZ lowest (negsuc n)) true t .0)

@@ -3,7 +3,7 @@ use Prim.Native.Nat.{ℕ, suc, _+_, _-_, _*_, _≤_, _<_}
 use native.Mathlib.Omega.{arith}
 use native.Mathlib.Decide.{decLt}
 use mathlib.Core.Path.{_≡_, sym, ap, _∙_, subst}
-use mathlib.Core.Bool.{true, false}
+use mathlib.Core.Bool.{true, false, true≢false}
 use mathlib.Core.List.{List, [], _∷_}
 use lib.ListN.{getD, length, drop, drop-of-length-le}
 use lib.Dec.{T}
@@ -14,7 +14,6 @@ use Rattle.meaning.specs.Layout.{Bytes}
 use Rattle.meaning.specs.Calls.{tokensFrom}
 use Rattle.meaning.specs.Tree.{Forest, node, yields, child, isLeafOf, WellEvaluateds}
 use Rattle.meaning_sheet.specs.Sheet.{sheets}
-use Rattle.theory_base.specs.Members.{apart}
 use Rattle.theory_base.specs.WellFormed.{well-formed-at}
 use Rattle.value.specs.Constants.{wordAt}
 use Rattle.theory_judge.specs.Longs.{longs, longs-size, cons-one}
@@ -196,4 +195,4 @@ module _ (g : Grammar) (formed : WellFormed g) (ks : List ℕ) (vals : List ℤ)
       node-false h n′ e′ x =
           let q = only-node n′ e′ x in
           let c = q .children in
-          apart (sym (hold-all g bytes vals marks pr good (ownValues g bytes at m) (c .trees) size (heading .ranges) (c .evaluated) (own (c .trees)) (marked .shown n′ e′ c) (q .rules) (q .conditions)) ∙ h)
+          true≢false (sym (hold-all g bytes vals marks pr good (ownValues g bytes at m) (c .trees) size (heading .ranges) (c .evaluated) (own (c .trees)) (marked .shown n′ e′ c) (q .rules) (q .conditions)) ∙ h)

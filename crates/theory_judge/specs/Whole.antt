@@ -6,6 +6,7 @@ use mathlib.Core.List.{List, _++_, append-nil}
 use lib.ListN.{length}
 use lib.Seq.{drop-length}
 use lib.IntN.{ℤ}
+use Rattle.meaning.specs.Limits.{depthLimit}
 use Rattle.meaning.specs.Grammar.{Grammar, nonterminal, Leaf, leaves}
 use Rattle.meaning.specs.Rules.{WellFormed}
 use Rattle.meaning.specs.Calls.{tokensFrom}
@@ -22,7 +23,7 @@ module _ (g : Grammar) (formed : WellFormed g) (ks : List ℕ) (vals : List ℤ)
   us = leaves g (tokensFrom ks vals)
 
   abbrev pub Start : ℕ → ℕ → Type 0
-  Start = Described g us bytes 0 0 (nonterminal (g .start)) 1023
+  Start = Described g us bytes 0 0 (nonterminal (g .start)) depthLimit
 
   abbrev whole-only : (t : Tree) → Describes g us bytes t → Start (length bytes) (length us)
   whole-only t h = record {
@@ -47,7 +48,7 @@ module _ (g : Grammar) (formed : WellFormed g) (ks : List ℕ) (vals : List ℤ)
 
   -- the root's result value stands in the first record
   shown-value : length us < 4294967296 → (n e : ℕ) (h : Start n e) → readMark bytes vals 0 (g .result) ≡ valueOf g (h .tree)
-  shown-value few n e h = described-shown g formed ks vals few bytes 0 0 (omega arith) (nonterminal (g .start)) 1023 n e h (g .result) (formed .result .0) (omega (arith, formed .result .1, tree-size g (h .tree) (nonterminal (g .start)) (h .evaluated)))
+  shown-value few n e h = described-shown g formed ks vals few bytes 0 0 (omega arith) (nonterminal (g .start)) depthLimit n e h (g .result) (formed .result .0) (omega (arith, formed .result .1, tree-size g (h .tree) (nonterminal (g .start)) (h .evaluated)))
 
   abbrev pub Nothing : Type 0
   Nothing = (t : Tree) → Describes g us bytes t → ⊥

@@ -10,7 +10,7 @@ use lib.ListN.{drop}
 use lib.Dec.{T, ltb, leb, lt→ltb}
 use Rattle.meaning.specs.Grammar.{Grammar, Leaf, Look, token, over}
 use Rattle.meaning.specs.Machine.{Config, Lent, Coming, comes, ends, asLook, Outcome, moved, blocked, Settled, stopped, failed, waits, next, lookAt, isDone, isFinished, advance, advanceFrom, feedToken, feedAll, tokensLimit, movesLimit, unexpected}
-use Rattle.theory_base.specs.Members.{T→true}
+use Rattle.theory_base.specs.Members.{T→true, left-false}
 use Rattle.theory_answers.specs.Bounds.{counts, look-free, Blocks, atLimit, notExpected, conditionFalse, outOfRange, noRegister, noPlace, blocks}
 use Rattle.theory_sets.specs.Accepted.{Sane}
 use Rattle.meaning_statements.specs.MarkedToken.{OneStart}
@@ -51,12 +51,8 @@ no-21 noPlace z = omega arith
 pub not-after : (g : Grammar) (lent : Lent) (t : Leaf) (n : ℕ) (e : Config) → n < e .tokens → waits (e .frames) && isDone (comes t) n e ≡ false → next g lent (comes t) e ≡ blocked 21 → ⊥
 not-after g lent t n e m w h =
     let done : ltb n (e .tokens) ≡ true = T→true (ltb n (e .tokens)) (lt→ltb n (e .tokens) m) in
-    let idle : waits (e .frames) ≡ false = not-both (waits (e .frames)) (ltb n (e .tokens)) done w in
+    let idle : waits (e .frames) ≡ false = left-false (waits (e .frames)) (ltb n (e .tokens)) done w in
     no-21 (blocks g lent ends e 21 (look-free g lent ends (comes t) e idle ∙ h)) refl
-  where
-    not-both : (a b : Bool) → b ≡ true → a && b ≡ false → a ≡ false
-    not-both true b e f = absurd (subst T (sym e ∙ f) tt)
-    not-both false b e f = refl
 
 -- so it leaves the count as it was
 pub count-kept : (g : Grammar) (lent : Lent) (t : Leaf) (c e : Config) → advanceFrom g lent (comes t) c ≡ failed e 21 → e .tokens ≡ c .tokens

@@ -4,7 +4,7 @@ use native.Mathlib.Omega.{arith}
 use mathlib.Core.Path.{_≡_, refl, sym, ap, ap₂, _∙_, subst}
 use mathlib.Core.Logic.{_⊎_, inl, inr}
 use mathlib.Core.Bool.{Bool, true, false, not}
-use mathlib.Core.List.{List, [], _∷_, cons≢nil}
+use mathlib.Core.List.{List, [], _∷_, cons≢nil, cons-eq-cons}
 use lib.Dec.{T, ltb}
 use Rattle.meaning.specs.Base.{consIf, isEmpty}
 use Rattle.meaning.specs.Grammar.{Symbol, terminal, nonterminal, Production, Grammar, productionAt, addedFor, whole}
@@ -40,9 +40,6 @@ opening-framed g = begun (nonterminal (g .start))
 
 -- ---- taken apart
 
-same-frame : (f h : Frame) (fs hs : List Frame) → f ∷ fs ≡ h ∷ hs → (f ≡ h) × (fs ≡ hs)
-same-frame f h fs hs e = (cc, cc)
-
 pub no-frames : {fs : List Frame} → Framed fs → fs ≡ [] → ⊥
 no-frames (begun x) e = cons≢nil e
 no-frames left e = cons≢nil e
@@ -50,25 +47,22 @@ no-frames (on p is k b) e = cons≢nil e
 
 -- a frame with nothing left is the whole segment's, and stands alone
 pub nothing-left : {zs : List Frame} → Framed zs → (p : ℕ) (fs : List Frame) → zs ≡ frame p [] ∷ fs → (p ≡ whole) × (fs ≡ [])
-nothing-left (begun x) p fs e = let s = same-frame (frame whole (expect x ∷ [])) (frame p []) [] fs e in absurd (cons≢nil (ap (λ f. f .rest) (s .0)))
-nothing-left left p fs e = let s = same-frame (frame whole []) (frame p []) [] fs e in (sym (ap (λ f. f .production) (s .0)), sym (s .1))
-nothing-left (on q is {fs = zs} k b) p fs e = let s = same-frame (frame q is) (frame p []) zs fs e in absurd (subst (λ z. T (closes z)) (ap (λ f. f .rest) (s .0)) k)
+nothing-left (begun x) p fs e = let s = cons-eq-cons .0 e in absurd (cons≢nil (ap (λ f. f .rest) (s .0)))
+nothing-left left p fs e = let s = cons-eq-cons .0 e in (sym (ap (λ f. f .production) (s .0)), sym (s .1))
+nothing-left (on q is {fs = zs} k b) p fs e = let s = cons-eq-cons .0 e in absurd (subst (λ z. T (closes z)) (ap (λ f. f .rest) (s .0)) k)
 
 -- a frame with an instruction left
 abbrev FirstFrame : ℕ → Instruction → List Instruction → List Frame → Type 0
 FirstFrame p i is fs = ((p ≡ whole) × (isExpect i ≡ 1) × (is ≡ []) × (fs ≡ [])) ⊎ (T (closes (i ∷ is)) × Below fs)
 
-same-rest : (i j : Instruction) (is js : List Instruction) → i ∷ is ≡ j ∷ js → (i ≡ j) × (is ≡ js)
-same-rest i j is js e = (cc, cc)
-
 first-frame : {zs : List Frame} → Framed zs → (p : ℕ) (i : Instruction) (is : List Instruction) (fs : List Frame) → zs ≡ frame p (i ∷ is) ∷ fs → FirstFrame p i is fs
 first-frame (begun x) p i is fs e =
-    let s = same-frame (frame whole (expect x ∷ [])) (frame p (i ∷ is)) [] fs e in
-    let r = same-rest (expect x) i [] is (ap (λ f. f .rest) (s .0)) in
+    let s = cons-eq-cons .0 e in
+    let r = cons-eq-cons .0 (ap (λ f. f .rest) (s .0)) in
     inl (sym (ap (λ f. f .production) (s .0)), sym (ap isExpect (r .0)), sym (r .1), sym (s .1))
-first-frame left p i is fs e = let s = same-frame (frame whole []) (frame p (i ∷ is)) [] fs e in absurd (cons≢nil (sym (ap (λ f. f .rest) (s .0))))
+first-frame left p i is fs e = let s = cons-eq-cons .0 e in absurd (cons≢nil (sym (ap (λ f. f .rest) (s .0))))
 first-frame (on q js {fs = zs} k b) p i is fs e =
-    let s = same-frame (frame q js) (frame p (i ∷ is)) zs fs e in
+    let s = cons-eq-cons .0 e in
     inr (subst (λ z. T (closes z)) (ap (λ f. f .rest) (s .0)) k, subst Below (s .1) b)
 
 -- ---- a scheme ends with its remove

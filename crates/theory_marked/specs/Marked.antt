@@ -20,7 +20,8 @@ use Rattle.theory_answers.specs.Runs.{Leads, Anything, Fed, fed}
 use Rattle.theory_answers.specs.TurnedBack.{by-gate}
 use Rattle.theory_sets.specs.Accepted.{Sane, accepted-sane}
 use Rattle.theory_sound.specs.CallSound.{feed-is, finish-is}
-use Rattle.theory_sound.specs.Histories.{OpenRun, Run, runs}
+use Rattle.theory_sound.specs.Histories.{OpenRun, Run, runs, not-more}
+use Rattle.theory_sound.specs.ValueSound.{not-value}
 use Rattle.theory_demands.specs.ByGrammar.{performs-is, by-grammar}
 use Rattle.meaning_statements.specs.MarkedToken.{kinds, TokenString, Begins, OneStart, MarkedToken, MarkedByStart, MarkedBegins}
 use Rattle.theory_marked.specs.Remaining.{kindsOf}
@@ -73,12 +74,6 @@ module _ {g : Grammar} (s : Sane g) (lent : Lent) (ts : List Leaf) (c : Config) 
 
 refused-is : {j k n m : ℕ} → refused j n ≡ refused k m → (j ≡ k) × (n ≡ m)
 refused-is e = (cc, cc)
-
-more-refused : {A : Type 0} {n k j : ℕ} → Calls.more n ≡ refused k j → A
-more-refused e = absurd (let z : _≡_ {A = ℕ} 0 1 = cc in omega arith)
-
-value-refused : {A : Type 0} {v : ℤ} {n k j : ℕ} → value v n ≡ refused k j → A
-value-refused e = absurd (let z : _≡_ {A = ℕ} 0 1 = cc in omega arith)
 
 module _ {g : Grammar} (s : Sane g) (m₀ : Stacks) (ts : List Leaf) (r : Record) (m : Stacks) (o : OpenRun g m₀ ts r m) where
   few : o .config .tokens ≤ tokensLimit
@@ -149,7 +144,7 @@ module _ {g : Grammar} (s : Sane g) (m₀ : Stacks) (ts : List Leaf) (r : Record
       go (feedAll g (lentOf m₀) us c) refl (sym (ap (λ z. z .answer) e) ∙ h)
     where
       go : (k : Settled) → feedAll g (lentOf m₀) us (o .config) ≡ k → afterFeed g (layAll g (o .config) m₀) k .answer ≡ refused 21 n → MarkedAt us n
-      go (stopped d) q h = more-refused h
+      go (stopped d) q h = not-more (sym h)
       go (failed d j) q h = let u = refused-is h in subst (MarkedAt us) (u .1) (marked-at us d (q ∙ ap (failed d) (u .0)))
 
   finish-begins : Begins g (kindsOf ts)
@@ -162,7 +157,7 @@ module _ {g : Grammar} (s : Sane g) (m₀ : Stacks) (ts : List Leaf) (r : Record
       go (finishAll g (lentOf m₀) c) refl (sym (ap (λ z. z .answer) e) ∙ h)
     where
       go : (k : Settled) → finishAll g (lentOf m₀) (o .config) ≡ k → afterFinish g (layAll g (o .config) m₀) k .answer ≡ refused 24 n → ⊥
-      go (stopped d) q h = value-refused h
+      go (stopped d) q h = not-value (sym h)
       go (failed d j) q h =
           let f = follows s (lentOf m₀) ts (o .config) (o .leads) one [] (subst (λ z. TokenString g (kindsOf z)) (sym (append-nil ts)) k) in
           never s one (lentOf m₀) [] (o .config .tokens) (o .config) d refl f (q ∙ ap (failed d) (refused-is h .0))

@@ -3,7 +3,7 @@ use Prim.Native.Nat.{ℕ, suc, _<_}
 use native.Mathlib.Omega.{arith}
 use mathlib.Core.Path.{_≡_, refl, sym, ap, _∙_, subst}
 use mathlib.Core.Logic.{inl, inr}
-use mathlib.Core.List.{List, [], _∷_, _++_, append-assoc, append-cancel-left}
+use mathlib.Core.List.{List, [], _∷_, _++_, append-assoc, append-cancel-left, head-eq-of-cons-eq}
 use lib.ListN.{length, drop, replicate}
 use lib.Seq.{drop-cons, drop-at, take-at}
 use lib.IntN.{ℤ}
@@ -37,9 +37,6 @@ still g t o bs b ts us r y =
     let own : yields (forestOnto (o .children) (b .ahead)) ++ b .rest ≡ yieldsOf (o .children) ++ (yields (b .ahead) ++ b .rest) = ap (λ z. z ++ b .rest) (yields-onto (o .children) (b .ahead)) ∙ append-assoc (yieldsOf (o .children)) (yields (b .ahead)) (b .rest) in
     let split : yield t ≡ ts ++ (yields (b .ahead) ++ b .rest) = along-yield g t bs _ (b .rest) (b .along) ∙ (ap (λ z. yieldBelow bs ++ z) own ∙ (sym (append-assoc (yieldBelow bs) (yieldsOf (o .children)) (yields (b .ahead) ++ b .rest)) ∙ ap (λ z. z ++ (yields (b .ahead) ++ b .rest)) r)) in
     append-cancel-left ts (yields (b .ahead) ++ b .rest) us (sym split ∙ y)
-
-same-first : (u v : Leaf) (us vs : List Leaf) → u ∷ us ≡ v ∷ vs → u ≡ v
-same-first u v us vs e = cc
 
 only-leaf : (g : Grammar) (u : Tree) (x : Symbol) (k : ℕ) → WellEvaluated g u x → x ≡ terminal k → (d : Leaf) × (u ≡ leaf d)
 only-leaf g (leaf d) x k w e = (d, refl)
@@ -79,7 +76,7 @@ module _ (g : Grammar) (formed : WellFormed g) (t : Tree) (w : WellEvaluated g t
       let n = next-of o bs b (symbolAt p (suc k)) (drop (suc k) (p .right)) (drop-cons (p .right) k (terminal 0) (l .0)) in
       let d = only-leaf g (n .tree) (symbolAt p (suc k)) (c .kind) (n .evaluated) (l .1 .0) in
       let z : d .0 ∷ (yields (n .after) ++ b .rest) ≡ c ∷ drop 1 us = ap (λ u. yields (treeAnd u (n .after)) ++ b .rest) (sym (d .1)) ∙ (ap (λ y. yields y ++ b .rest) (sym (n .isNext)) ∙ (pos ∙ look-is us c look)) in
-      let e : d .0 ≡ c = same-first (d .0) c (yields (n .after) ++ b .rest) (drop 1 us) z in
+      let e : d .0 ≡ c = head-eq-of-cons-eq z in
       begun-more o bs b (leaf c) (n .after) (n .isNext ∙ ap (λ u. treeAnd u (n .after)) (d .1 ∙ ap leaf e))
 
   -- ---- the production predicted is the tree's

@@ -2,14 +2,14 @@
 use Prim.Native.Nat.{ℕ, zero, suc}
 use mathlib.Core.Path.{_≡_, refl, sym, ap, ap₂, subst}
 use mathlib.Core.Logic.{inl, inr}
-use mathlib.Core.Bool.{Bool, true, false, _||_, cond}
+use mathlib.Core.Bool.{Bool, true, false, _||_, cond, true≢false}
 use mathlib.Core.List.{List, [], _∷_, map}
 use lib.ListN.{length, getD, List·getD-eq-default}
 use lib.Dec.{T, eqb, ltb, ltb→lt, nltb→le, not-T}
 use Rattle.meaning.specs.Base.{any, keep, consIf, In}
 use Rattle.meaning.specs.Grammar.{Symbol, terminal, nonterminal, Occurrence, Rule, Condition, Production, Grammar, productionAt, markedFor, wholeProduction, whole}
 use Rattle.meaning.specs.Rules.{WellFormed}
-use Rattle.theory_base.specs.Members.{apart, getD-in, true→T}
+use Rattle.theory_base.specs.Members.{getD-in, true→T}
 use Rattle.theory_base.specs.WellFormed.{Evaluable, evaluable, evaluable-whole}
 use Rattle.meaning_house.specs.Order.{SameProduction, SameEach, SameButOrder}
 use Rattle.theory_order.specs.Shuffles.{shuffled-refl, shuffled-sym, members-refl, members-sym}
@@ -78,8 +78,8 @@ keep-each f h (p ∷ ps) (q ∷ qs) e = go (f p) (f q) (h p q (e .0)) (keep-each
   where
     go : (a b : Bool) → a ≡ b → SameEach (keep f ps) (keep f qs) → SameEach (consIf a p (keep f ps)) (consIf b q (keep f qs))
     go true true x s = (e .0, s)
-    go true false x s = absurd (apart x)
-    go false true x s = absurd (apart (sym x))
+    go true false x s = absurd (true≢false x)
+    go false true x s = absurd (true≢false (sym x))
     go false false x s = s
 
 -- ---- a grammar with other productions

@@ -7,6 +7,7 @@ use mathlib.Core.Option.{none, some}
 use mathlib.Core.List.{List, [], _∷_, _++_, map, reverse, map-append, append-assoc}
 use lib.ListN.{length, getD, take, drop, length-append, length-map, length-reverse}
 use lib.Seq.{take-at}
+use Rattle.meaning.specs.Limits.{productionsLimit}
 use Rattle.meaning.specs.Base.{In, total}
 use Rattle.meaning.specs.Grammar.{Occurrence, Rule, Condition, range, atmost, Production, Grammar}
 use Rattle.meaning.specs.Rules.{WellFormedProduction}
@@ -178,7 +179,7 @@ pub record TablePlan (t : List ℕ) (s : State) : Type 0 where
   pub room : ℕ
   pub planned : Planned t (map (λ e. e .offset) (reverse (s .entries))) plan room
   pub few : room ≤ 1664
-  pub some : (0 < length (s .entries)) × (length (s .entries) ≤ 128)
+  pub some : (0 < length (s .entries)) × (length (s .entries) ≤ productionsLimit)
   pub inside : getD (map (λ e. e .offset) (reverse (s .entries))) 0 0 ≤ length t
   pub bytes : take (getD (map (λ e. e .offset) (reverse (s .entries))) 0 0) t ++ copied t plan ≡ houseBytes (grammarOf s)
 
@@ -189,7 +190,7 @@ table-plan t s b e =
     let w = read-well-formed t s e in
     let p = plans g t es (λ n l. (getD (map (λ d. d .offset) es) (suc n) (length t), read-stretch t s b e n (omega (arith, length-reverse (s .entries))))) (λ x i. w .each (productionOf x) (in-map productionOf es x i)) in
     let n : length (g .productions) ≡ length (s .entries) = length-map es productionOf ∙ length-reverse (s .entries) in
-    let some : (0 < length (s .entries)) × (length (s .entries) ≤ 128) = (omega (arith, w .productions), omega (arith, w .productions)) in
+    let some : (0 < length (s .entries)) × (length (s .entries) ≤ productionsLimit) = (omega (arith, w .productions), omega (arith, w .productions)) in
     let at : productionsAt s ≡ getD (map (λ d. d .offset) es) 0 (length t) = first-offset (read-stretches t s b e) (length t) (read-length t s b e) in
     let o : getD (map (λ d. d .offset) es) 0 0 ≡ productionsAt s = map-at (λ d. d .offset) es 0 noEntry 0 (omega (arith, length-reverse (s .entries))) ∙ (sym (map-at (λ d. d .offset) es 0 noEntry (length t) (omega (arith, length-reverse (s .entries)))) ∙ sym at) in
     let ws : List ℕ = carryingFields (g .carrying) in

@@ -18,6 +18,7 @@ use Rattle.meaning.specs.Machine.{readRegister, writeAll, schemeAt, entered}
 use Rattle.theory_base.specs.WellFormed.{Evaluable}
 use Rattle.theory_base.specs.Selectors.{target-of-inherited, target-of-synthesized}
 use Rattle.theory_base.specs.Present.{in-for}
+use Rattle.theory_base.specs.Evaluations.{occ-eq}
 use Rattle.meaning_house.specs.Order.{Shuffled, neither, kept, swapped, through, SameMembers, SameProduction, SameEach}
 use Rattle.theory_order.specs.Shuffles.{Apart, apart-shuffled, apart-keep, apart-map, all-shuffled, empty-shuffled, keep-shuffled, map-shuffled, all-members, empty-members, keep-members, map-members}
 use Rattle.theory_order.specs.Alike.{SameEffect, Alike, adds, evaluates, awaits, tests, removes, AlikeAll, ended, followed}
@@ -44,9 +45,6 @@ distinct-apart (r ∷ rs) d = (d .0, distinct-apart rs (d .1))
 pub apart-distinct : (rs : List (Rule Occurrence)) → Apart (λ r. r .target) rs → Distinct rs
 apart-distinct [] d = tt
 apart-distinct (r ∷ rs) d = (d .0, apart-distinct rs (d .1))
-
-occurrence-is : (o u : Occurrence) → o .position ≡ u .position → o .attribute ≡ u .attribute → o ≡ u
-occurrence-is o u e f = λ i. record { position = e i; attribute = f i }
 
 -- ---- a production and its like
 
@@ -103,7 +101,7 @@ module _ (g : Grammar) (qs : List Production) (p : Production) (rs : List (Rule 
           (h .0, o .1, target-of-inherited g p (suc k) (r .target) (h .0))
 
       one : (x y : Rule Occurrence) → In x (rulesFor p (suc k)) → In y (rulesFor p (suc k)) → selectInherited g p (suc k) (x .target) - 1 ≡ selectInherited g p (suc k) (y .target) - 1 → x .target ≡ y .target
-      one x y i j e = let a = first x i in let b = first y j in occurrence-is (x .target) (y .target) (a .0 ∙ sym (b .0)) (omega (arith, a .1, a .2, b .1, b .2, e))
+      one x y i j e = let a = first x i in let b = first y j in occ-eq (x .target) (y .target) (a .0 ∙ sym (b .0)) (omega (arith, a .1, a .2, b .1, b .2, e))
 
   synthesized-apart : Apart cell (synthesizedRules g p)
   synthesized-apart = apart-map (λ r. r .target) (mapRule (selectAfter g p (length (p .right)))) cell (rulesFor p 0) (apart-for 0) one
@@ -115,7 +113,7 @@ module _ (g : Grammar) (qs : List Production) (p : Production) (rs : List (Rule 
           (h .0, omega (arith, o .0), target-of-synthesized g p (length (p .right)) (r .target) (h .0))
 
       one : (x y : Rule Occurrence) → In x (rulesFor p 0) → In y (rulesFor p 0) → selectAfter g p (length (p .right)) (x .target) - 1 ≡ selectAfter g p (length (p .right)) (y .target) - 1 → x .target ≡ y .target
-      one x y i j e = let a = first x i in let b = first y j in occurrence-is (x .target) (y .target) (a .0 ∙ sym (b .0)) (omega (arith, a .1, a .2, b .1, b .2, e))
+      one x y i j e = let a = first x i in let b = first y j in occ-eq (x .target) (y .target) (a .0 ∙ sym (b .0)) (omega (arith, a .1, a .2, b .1, b .2, e))
 
   inherited-shuffled : (k : ℕ) → Shuffled (inheritedRules g p k) (inheritedRules (regrouped g qs) (redone p rs cs) k)
   inherited-shuffled k = subst (λ f. Shuffled (inheritedRules g p k) (map (mapRule f) (rulesFor (redone p rs cs) k))) (inherited-redone g qs p rs cs k) (map-shuffled (mapRule (selectInherited g p k)) (rules-shuffled k))

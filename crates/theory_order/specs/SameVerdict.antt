@@ -7,7 +7,7 @@ use mathlib.Core.List.{List, [], _∷_, _++_, map}
 use lib.ListN.{length}
 use lib.Dec.{T, eqb}
 use lib.IntN.{ℤ}
-use Rattle.meaning.specs.Limits.{rulesLimit, conditionsLimit}
+use Rattle.meaning.specs.Limits.{rulesLimit, conditionsLimit, productionsLimit}
 use Rattle.meaning.specs.Base.{In, all, total}
 use Rattle.meaning.specs.Grammar.{Symbol, terminal, nonterminal, Rule, Condition, Occurrence, Production, Grammar, productionAt, inh, Look, token, over, nonterminalCount, conditionPosition, conditionsAt}
 use Rattle.meaning.specs.Value.{holds, inRange}
@@ -77,7 +77,7 @@ well-regrouped g qs s w few = record {
   rising = w .rising;
   startAlone = w .startAlone;
   result = w .result;
-  productions = subst (λ n. (1 ≤ n) × (n ≤ 128)) (each-length (g .productions) qs s) (w .productions);
+  productions = subst (λ n. (1 ≤ n) × (n ≤ productionsLimit)) (each-length (g .productions) qs s) (w .productions);
   rules = subst (λ n. n ≤ rulesLimit) (ap total (map-each (λ p. length (p .rules)) (λ p q x. length-shuffled (x .rules)) (g .productions) qs s)) (w .rules);
   conditions = few;
   each = λ q i. let v = each-in (g .productions) qs s q i in subst (WellFormedProduction (regrouped g qs)) (redone-is (v .0) q (v .2)) (redone-well g qs (v .0) q (v .2) (w .each (v .0) (v .1)));

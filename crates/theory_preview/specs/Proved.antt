@@ -6,6 +6,7 @@ use mathlib.Core.Bool.{Bool, true, false}
 use mathlib.Core.List.{List, [], _∷_}
 use lib.Dec.{T, ltb, leb, ltb→lt}
 use lib.IntN.{ℤ}
+use Rattle.meaning.specs.Limits.{terminalsLimit}
 use Rattle.meaning.specs.Grammar.{Grammar, leafOf}
 use Rattle.meaning.specs.Sets.{has, endNumber}
 use Rattle.meaning.specs.Machine.{Settled, stopped, failed, advanceFrom, comes, tokensLimit}
@@ -70,7 +71,7 @@ module _ (program : Grammar → List ℕ) (bs area : List ℕ) (g : Grammar) (r 
   abbrev test : ℤ → ℕ → Bool
   test v t = noRefusal (previewOf g r m s t v .answer)
 
-  small : g .terminals ≤ 63
+  small : g .terminals ≤ terminalsLimit
   small = accepted-well-formed bs g (x .accepts) .terminals .1
 
   same-test : (v : ℤ) (t : ℕ) → noRefusal (previews program bs area r m s t v .answer) ≡ test v t

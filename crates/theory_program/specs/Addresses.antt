@@ -7,6 +7,7 @@ use mathlib.Core.Logic.{inl, inr}
 use mathlib.Core.List.{List, [], _∷_, _++_, map}
 use lib.ListN.{length, getD, drop, length-append, length-map, length-replicate, replicate, List·getD-append}
 use lib.Seq.{getD-append-add}
+use Rattle.meaning.specs.Limits.{symbolsLimit}
 use Rattle.meaning.specs.Base.{In, countFrom, total, isEmpty}
 use Rattle.meaning.specs.Grammar.{Symbol, nonterminal, syn, Production, Grammar, nonterminalCount, productionAt, whole, wholeProduction}
 use Rattle.meaning.specs.Rules.{WellFormed}
@@ -30,7 +31,7 @@ recordAddress g p = recordsAddress g + 8 * p
 
 -- of the word that says what the place with no symbol passed waits at
 abbrev pub waitAddress : Grammar → ℕ → ℕ
-waitAddress g p = waitsAddress g + 12 * p
+waitAddress g p = waitsAddress g + symbolsLimit * p
 
 abbrev pub entryAddress : Grammar → ℕ → ℕ
 entryAddress g p = bodyAddress g p + length (productionAt g p .right)
@@ -65,16 +66,16 @@ pub waits-from-length : (g : Grammar) (l n : ℕ) (xs : List Symbol) → length 
 waits-from-length g l n [] = refl
 waits-from-length g l n (x ∷ xs) = ap suc (waits-from-length g l (n + syn g x) xs)
 
-pub wait-row-length : (g : Grammar) (p : Production) → length (p .right) ≤ 12 → length (waitRow g p) ≡ 12
+pub wait-row-length : (g : Grammar) (p : Production) → length (p .right) ≤ symbolsLimit → length (waitRow g p) ≡ symbolsLimit
 wait-row-length g p s =
-    length-append (waitsFrom g (p .left) 0 (p .right)) (replicate (12 - length (p .right)) 0)
-    ∙ omega (arith, waits-from-length g (p .left) 0 (p .right), length-replicate {A = ℕ} (12 - length (p .right)) 0)
+    length-append (waitsFrom g (p .left) 0 (p .right)) (replicate (symbolsLimit - length (p .right)) 0)
+    ∙ omega (arith, waits-from-length g (p .left) 0 (p .right), length-replicate {A = ℕ} (symbolsLimit - length (p .right)) 0)
 
 -- of productions whose right sides have at most 12 symbols
 abbrev pub Short : List Production → Type 0
-Short ps = (p : Production) → In p ps → length (p .right) ≤ 12
+Short ps = (p : Production) → In p ps → length (p .right) ≤ symbolsLimit
 
-pub waits-length : (g : Grammar) (ps : List Production) → Short ps → length (concat (map (waitRow g) ps)) ≡ 12 * length ps
+pub waits-length : (g : Grammar) (ps : List Production) → Short ps → length (concat (map (waitRow g) ps)) ≡ symbolsLimit * length ps
 waits-length g [] h = refl
 waits-length g (p ∷ ps) h = length-append (waitRow g p) (concat (map (waitRow g) ps)) ∙ omega (arith, wait-row-length g p (h p (inl refl)), waits-length g ps (λ q i. h q (inr i)))
 
@@ -121,11 +122,11 @@ record-in g a i (r ∷ ps) zero d b j l e q =
 record-in g a i (r ∷ ps) (suc p) d b j l e q =
     stands-at (8 * suc p) (omega arith) (stands-in (stands-behind (recordWords g a i r ps) (recordsFrom g (a + bodySize g r) (suc i) ps)) (record-in g (a + bodySize g r) (suc i) ps p d b j (omega arith) (omega arith) (omega arith)))
 
-wait-in : (g : Grammar) (ps : List Production) (p : ℕ) (d : Production) → Short ps → p < length ps → WordsStand (concat (map (waitRow g) ps)) (12 * p) (waitRow g (getD ps p d))
+wait-in : (g : Grammar) (ps : List Production) (p : ℕ) (d : Production) → Short ps → p < length ps → WordsStand (concat (map (waitRow g) ps)) (symbolsLimit * p) (waitRow g (getD ps p d))
 wait-in g [] p d h l = absurd (omega arith)
-wait-in g (r ∷ ps) zero d h l = stands-at (12 * 0) (omega arith) (stands-first (waitRow g r) (concat (map (waitRow g) ps)))
+wait-in g (r ∷ ps) zero d h l = stands-at (symbolsLimit * 0) (omega arith) (stands-first (waitRow g r) (concat (map (waitRow g) ps)))
 wait-in g (r ∷ ps) (suc p) d h l =
-    stands-at (12 * suc p) (omega (arith, wait-row-length g r (h r (inl refl)))) (stands-in (stands-behind (waitRow g r) (concat (map (waitRow g) ps))) (wait-in g ps p d (λ q i. h q (inr i)) (omega arith)))
+    stands-at (symbolsLimit * suc p) (omega (arith, wait-row-length g r (h r (inl refl)))) (stands-in (stands-behind (waitRow g r) (concat (map (waitRow g) ps))) (wait-in g ps p d (λ q i. h q (inr i)) (omega arith)))
 
 body-in : (g : Grammar) (a : ℕ) (ps : List Production) (p : ℕ) (d : Production) (b : ℕ) → p < length ps → a + bodiesBefore g p ps ≡ b → WordsStand (bodiesFrom g a ps) (bodiesBefore g p ps) (bodyWords g b (getD ps p d))
 body-in g a [] p d b l e = absurd (omega arith)
@@ -193,7 +194,7 @@ module _ {g : Grammar} {ws : List ℕ} (s : Begins g ws) where
         let here = wait-in g (g .productions) p (wholeProduction g) (short-productions w) l in
         subst (λ q. WordsStand ws (waitAddress g p) (waitRow g q)) (sym (listed-at g w p l)) (stands-in (stands-left (waits g) bodies behind-records) here)
 
-    pub wait-at : (k : ℕ) → k < 12 → getD ws (waitAddress g p + k) 0 ≡ getD (waitRow g (productionAt g p)) k 0
+    pub wait-at : (k : ℕ) → k < symbolsLimit → getD ws (waitAddress g p + k) 0 ≡ getD (waitRow g (productionAt g p)) k 0
     wait-at k m = stands-word wait-row-at k (omega (arith, wait-row-length g (productionAt g p) (well-formed-at g w p l .short)))
 
     pub body-at : WordsStand ws (bodyAddress g p) (bodyWords g (bodyAddress g p) (productionAt g p))

@@ -11,8 +11,8 @@ use Rattle.meaning.specs.Grammar.{terminal, nonterminal, Function, const, copy,
 use Rattle.meaning.specs.Scheme.{Instruction, add, evaluate, expect, test, remove}
 use Rattle.meaning.specs.Machine.{expects}
 use Rattle.meaning.specs.Calls.{fromExpect}
-use Rattle.meaning.specs.Program.{concat, functionWords, ruleWords, conditionWords, instructionWords, schemeWords, expectsAt}
-use Rattle.theory_program.specs.Parts.{addOperation, evaluateOperation, readOperation, predictOperation, testOperation, removeOperation, headOf, headOperation, headOperand}
+use Rattle.meaning.specs.Program.{concat, functionWords, ruleWords, conditionWords, instructionWords, schemeWords, expectsAt, addOperation, evaluateOperation, readOperation, predictOperation, testOperation, removeOperation, headOf}
+use Rattle.theory_program.specs.Parts.{headOperation, headOperand}
 use Rattle.theory_program.specs.WordsStand.{WordsStand, stands-at, stands-left, stands-right, stands-tail, stands-word, stands-head}
 
 pub record RulesAt (ws : List ℕ) (a : ℕ) (rs : List (Rule ℕ)) : Type 0 where

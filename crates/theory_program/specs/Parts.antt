@@ -1,38 +1,11 @@
--- The parts of the program's words, by / and %: the one account of how a word is taken apart. (Those of a place stand in meaning's Grammar.)
-use Prim.Native.Nat.{ℕ, _+_, _*_, _/_, _%_, _^_}
+-- The parts of the program's words, by / and %: the one account of how a word is taken apart. (Those of a place stand in meaning's Grammar, the operations' numbers in its Program.)
+use Prim.Native.Nat.{ℕ, _+_, _/_, _%_, _^_}
 use mathlib.Core.Bool.{Bool}
 use mathlib.Core.List.{List}
 use lib.ListN.{getD}
 use lib.Dec.{eqb}
 
--- ---- the numbers of the operations
-
-abbrev pub addOperation : ℕ
-addOperation = 0
-
-abbrev pub evaluateOperation : ℕ
-evaluateOperation = 1
-
-abbrev pub readOperation : ℕ
-readOperation = 2
-
-abbrev pub predictOperation : ℕ
-predictOperation = 3
-
-abbrev pub testOperation : ℕ
-testOperation = 4
-
-abbrev pub removeOperation : ℕ
-removeOperation = 5
-
--- nothing is left
-abbrev pub nothingOperation : ℕ
-nothingOperation = 6
-
 -- ---- an instruction's head word
-
-abbrev pub headOf : ℕ → ℕ → ℕ
-headOf operation operand = operation + 8 * operand
 
 abbrev pub headOperation : ℕ → ℕ
 headOperation w = w % 8

@@ -8,10 +8,10 @@ use mathlib.Core.Option.{none, some}
 use mathlib.Core.List.{List, [], _∷_, map}
 use lib.ListN.{length, take, drop, length-map, length-take, length-drop}
 use lib.Dec.{T, eqb, ltb, ltb→lt, eqb·suc-zero}
-use Rattle.meaning.specs.Limits.{conditionsLimit}
+use Rattle.meaning.specs.Limits.{conditionsLimit, attributesLimit, symbolsLimit}
 use Rattle.meaning.specs.Base.{In, keep, consIf, total, isEmpty, any}
 use Rattle.meaning.specs.Grammar.{Symbol, terminal, nonterminal, Occurrence, Function, const, copy, binary, addc, quot, Rule, Condition, range, atmost, Production, Grammar}
-use Rattle.meaning.specs.Grammar.{syn, att, symbolAt, productionAt, wholeProduction, conditionPosition, addedFor, attributeIf, mapFunction, mapCondition, mapRule, conditionsAt}
+use Rattle.meaning.specs.Grammar.{syn, att, symbolAt, productionAt, wholeProduction, conditionPosition, addedFor, mapFunction, mapCondition, mapRule, conditionsAt}
 use Rattle.meaning.specs.Rules.{Operands, Reads, Input, InputAt, Output, OutputAt, Operand, Known, InFourBytes, Constant, Proper, WellFormedProduction, WellFormed}
 use Rattle.meaning.specs.Selectors.{occurrence}
 use Rattle.meaning.specs.Scheme.{Instruction, add, evaluate, expect, test, remove, synBetween, selectInherited, selectAfter, rulesFor, entryTests, testsAfter, inheritedRules, synthesizedRules, removed, symbolScheme, symbolsScheme, scheme}
@@ -20,6 +20,7 @@ use Rattle.theory_base.specs.WellFormed.{listed-at, counts-most}
 use Rattle.theory_base.specs.Selectors.{inherited-at, target-of-inherited, target-of-synthesized}
 use Rattle.theory_base.specs.Present.{in-for}
 use Rattle.theory_base.specs.Evaluate.{distinct-keep}
+use Rattle.theory_base.specs.Feeds.{attribute-most}
 use Rattle.theory_answers.specs.Selecting.{operands-through, reads-through}
 use Rattle.theory_program.specs.RuleCounts.{rules-few}
 
@@ -43,8 +44,8 @@ pub record ProperCondition (c : Condition ℕ) : Type 0 where
   pub bounds : Bounds c
 
 abbrev pub ProperInstruction : Grammar → Instruction → Type 0
-ProperInstruction g (add n) = (1 ≤ n) × (n ≤ 8)
-ProperInstruction g (evaluate rs) = (1 ≤ length rs) × (length rs ≤ 8) × ((r : Rule ℕ) → In r rs → ProperRule r)
+ProperInstruction g (add n) = (1 ≤ n) × (n ≤ attributesLimit)
+ProperInstruction g (evaluate rs) = (1 ≤ length rs) × (length rs ≤ attributesLimit) × ((r : Rule ℕ) → In r rs → ProperRule r)
 ProperInstruction g (expect x) = Known g x
 ProperInstruction g (test cs) = (1 ≤ length cs) × (length cs ≤ conditionsLimit) × ((c : Condition ℕ) → In c cs → ProperCondition c)
 ProperInstruction g (remove n) = n ≤ 104
@@ -73,15 +74,11 @@ proper-bounds (atmost a b (some c)) p = p
 
 -- ---- counts of attributes
 
-attribute-most : (b : Bool) → attributeIf b ≤ 1
-attribute-most true = omega arith
-attribute-most false = omega arith
-
-pub att-most : (g : Grammar) → WellFormed g → (x : Symbol) → att g x ≤ 8
+pub att-most : (g : Grammar) → WellFormed g → (x : Symbol) → att g x ≤ attributesLimit
 att-most g w (terminal t) = omega (arith, attribute-most (any (eqb t) (g .carrying)))
 att-most g w (nonterminal n) = counts-most g w n
 
-pub added-most : (g : Grammar) → WellFormed g → (x : Symbol) → addedFor g x ≤ 8
+pub added-most : (g : Grammar) → WellFormed g → (x : Symbol) → addedFor g x ≤ attributesLimit
 added-most g w (terminal t) = omega arith
 added-most g w (nonterminal n) = counts-most g w n
 
@@ -91,10 +88,10 @@ total-most f m h (x ∷ xs) =
     let z : m * suc (length xs) ≡ m + m * length xs = omega arith in
     omega (arith, h x, total-most f m h xs, z)
 
-pub syn-most : (g : Grammar) → WellFormed g → (p : Production) → length (p .right) ≤ 12 → (i k : ℕ) → synBetween g p i k ≤ 96
+pub syn-most : (g : Grammar) → WellFormed g → (p : Production) → length (p .right) ≤ symbolsLimit → (i k : ℕ) → synBetween g p i k ≤ 96
 syn-most g w p s i k =
     let xs = take (k - i) (drop i (p .right)) in
-    omega (arith, total-most (syn g) 8 (λ x. omega (arith, att-most g w x)) xs, length-take (k - i) (drop i (p .right)), length-drop i (p .right))
+    omega (arith, total-most (syn g) attributesLimit (λ x. omega (arith, att-most g w x)) xs, length-take (k - i) (drop i (p .right)), length-drop i (p .right))
 
 in-total : {A : Type 0} (f : A → ℕ) (xs : List A) (x : A) → In x xs → f x ≤ total (map f xs)
 in-total f [] x i = absurd i
@@ -119,7 +116,7 @@ some-present (x ∷ xs) t = omega arith
 -- ---- selectors
 
 module _ (g : Grammar) (w : WellFormed g) (p : Production) (f : WellFormedProduction g p) where
-  output-small : (k a : ℕ) → OutputAt g p k a → (1 ≤ a) × (a ≤ 8)
+  output-small : (k a : ℕ) → OutputAt g p k a → (1 ≤ a) × (a ≤ attributesLimit)
   output-small zero a o = (omega (arith, o .0), omega (arith, o .1, att-most g w (nonterminal (p .left))))
   output-small (suc k) a o = (o .1, omega (arith, o .2, att-most g w (symbolAt p (suc k))))
 
@@ -164,12 +161,12 @@ module _ (g : Grammar) (w : WellFormed g) (p : Production) (f : WellFormedProduc
         let h = in-for p k (m .0) (m .1) in
         subst ProperRule (sym (m .2)) (rule-proper (m .0) (h .0) (h .1))
 
-    rules-most : length (map (mapRule s) (rulesFor p k)) ≤ 8
+    rules-most : length (map (mapRule s) (rulesFor p k)) ≤ attributesLimit
     rules-most =
-        let few = rules-few k 8 (rulesFor p k) (distinct-keep (λ q. eqb (q .target .position) k) (p .rules) (f .distinct)) (λ q i. facts q (in-for p k q i)) in
+        let few = rules-few k attributesLimit (rulesFor p k) (distinct-keep (λ q. eqb (q .target .position) k) (p .rules) (f .distinct)) (λ q i. facts q (in-for p k q i)) in
         omega (arith, few, length-map (rulesFor p k) (mapRule s))
       where
-        facts : (q : Rule Occurrence) → (q .target .position ≡ k) × In q (p .rules) → (q .target .position ≡ k) × (1 ≤ q .target .attribute) × (q .target .attribute ≤ 8)
+        facts : (q : Rule Occurrence) → (q .target .position ≡ k) × In q (p .rules) → (q .target .position ≡ k) × (1 ≤ q .target .attribute) × (q .target .attribute ≤ attributesLimit)
         facts q h =
             let o = output-small (q .target .position) (q .target .attribute) (f .targets q (h .1)) in
             (h .0, o .0, o .1)
@@ -177,13 +174,13 @@ module _ (g : Grammar) (w : WellFormed g) (p : Production) (f : WellFormedProduc
   pub inherited-proper : (k : ℕ) (r : Rule ℕ) → In r (inheritedRules g p (suc k)) → ProperRule r
   inherited-proper k = rules-proper (suc k) (selectInherited g p (suc k)) (inherited-target k) (inherited-selects k)
 
-  pub inherited-most : (k : ℕ) → length (inheritedRules g p (suc k)) ≤ 8
+  pub inherited-most : (k : ℕ) → length (inheritedRules g p (suc k)) ≤ attributesLimit
   inherited-most k = rules-most (suc k) (selectInherited g p (suc k)) (inherited-target k) (inherited-selects k)
 
   pub synthesized-proper : (r : Rule ℕ) → In r (synthesizedRules g p) → ProperRule r
   synthesized-proper = rules-proper 0 (selectAfter g p (length (p .right))) (after-target (length (p .right))) (after-selects (length (p .right)))
 
-  pub synthesized-most : length (synthesizedRules g p) ≤ 8
+  pub synthesized-most : length (synthesizedRules g p) ≤ attributesLimit
   synthesized-most = rules-most 0 (selectAfter g p (length (p .right))) (after-target (length (p .right))) (after-selects (length (p .right)))
 
   -- ---- conditions
@@ -214,7 +211,7 @@ module _ (g : Grammar) (w : WellFormed g) (p : Production) (listed : In p (g .pr
   pub conditions-most : length (p .conditions) ≤ conditionsLimit
   conditions-most = omega (arith, in-total (λ q. length (q .conditions)) (g .productions) p listed, w .conditions)
 
-  evaluate-proper : (rs : List (Rule ℕ)) → length rs ≤ 8 → ((r : Rule ℕ) → In r rs → ProperRule r) → T (not (isEmpty rs)) → ProperInstruction g (evaluate rs)
+  evaluate-proper : (rs : List (Rule ℕ)) → length rs ≤ attributesLimit → ((r : Rule ℕ) → In r rs → ProperRule r) → T (not (isEmpty rs)) → ProperInstruction g (evaluate rs)
   evaluate-proper rs m h t = (some-present rs t, m, h)
 
   symbol-proper : (k : ℕ) (x : Symbol) (rest : List Instruction) → Known g x → AllProper g rest → AllProper g (symbolScheme g p (suc k) x rest)

@@ -1,5 +1,5 @@
 -- The words on the whole segment and those of a production's record, one by one.
-use Prim.Native.Nat.{ℕ, _+_, _*_, _/_, _%_, _^_, _<_}
+use Prim.Native.Nat.{ℕ, _+_, _/_, _%_, _^_, _<_}
 use native.Mathlib.Omega.{arith}
 use native.Mathlib.Decide.{decLt}
 use mathlib.Core.Path.{_≡_, ap, _∙_}
@@ -7,12 +7,13 @@ use mathlib.Core.Bool.{false}
 use mathlib.Core.List.{List}
 use lib.ListN.{length, getD}
 use lib.Dec.{eqb}
+use native.Mathlib.Nat.{add-zero}
 use Rattle.meaning.specs.Base.{any, countFrom}
 use Rattle.meaning.specs.Grammar.{Grammar, nonterminal, syn, productionAt}
 use Rattle.meaning.specs.Rules.{WellFormed}
 use Rattle.meaning.specs.Scheme.{entryTests}
 use Rattle.meaning.specs.Sets.{TokenSet, has, starts}
-use Rattle.meaning.specs.Program.{setBits, carriers, recordsAddress}
+use Rattle.meaning.specs.Program.{setBits, carriers, recordsAddress, headOf, predictOperation}
 use Rattle.theory_base.specs.Members.{map-at}
 use Rattle.theory_sets.specs.Verdicts.{counted}
 use Rattle.theory_program.specs.Parts.{inSet}
@@ -23,7 +24,7 @@ use Rattle.theory_program.specs.Search.{nextWord}
 
 -- the first words of the program
 pub record SegmentAt (g : Grammar) (ws : List ℕ) : Type 0 where
-  pub expected : getD ws 0 0 ≡ 3 + 8 * g .start
+  pub expected : getD ws 0 0 ≡ headOf predictOperation (g .start)
   pub nothingLeft : getD ws 1 0 ≡ 6
   pub records : getD ws 2 0 ≡ recordsAddress g
   pub terminals : getD ws 3 0 ≡ g .terminals
@@ -58,9 +59,6 @@ in-first u l = (omega arith, omega arith)
 in-second : (u : ℕ) → (u < 32 → ⊥) → u < 64 → (u / 32 ≡ 1) × (32 + u % 32 ≡ u)
 in-second u l m = (omega arith, omega arith)
 
-nothing-more : (a : ℕ) → a + 0 ≡ a
-nothing-more a = omega arith
-
 -- a set in two words from address a on: a place is in it where its bit is set in the word that has it
 module _ (ws : List ℕ) (a : ℕ) (s : TokenSet) (low : getD ws a 0 ≡ setBits s 0 1 32) (high : getD ws (a + 1) 0 ≡ setBits s 32 1 32) where
   pub words-set : (u : ℕ) → u < 64 → inSet ws a u ≡ has s u
@@ -71,7 +69,7 @@ module _ (ws : List ℕ) (a : ℕ) (s : TokenSet) (low : getD ws a 0 ≡ setBits
       at d k e q h = ap (λ n. eqb (n / 2 ^ (u % 32) % 2) 1) (ap (λ n. getD ws (a + n) 0) e ∙ h) ∙ (set-bit s k 32 (u % 32) (below u) ∙ ap (has s) q)
 
       go : Dec (u < 32) → inSet ws a u ≡ has s u
-      go (yes y) = let h = in-first u y in at 0 0 (h .0) (h .1) (ap (λ z. getD ws z 0) (nothing-more a) ∙ low)
+      go (yes y) = let h = in-first u y in at 0 0 (h .0) (h .1) (ap (λ z. getD ws z 0) (add-zero a) ∙ low)
       go (no y) = let h = in-second u y m in at 1 32 (h .0) (h .1) high
 
 -- the tokens that carry a value

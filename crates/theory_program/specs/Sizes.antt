@@ -7,7 +7,7 @@ use mathlib.Core.Bool.{Bool, true, false, not}
 use mathlib.Core.List.{List, [], _∷_, _++_, map}
 use lib.ListN.{length, length-append, length-map}
 use lib.Dec.{T, eqb, ltb, leb, leb→le, le→leb, eqb→eq}
-use Rattle.meaning.specs.Limits.{areaLength}
+use Rattle.meaning.specs.Limits.{areaLength, symbolsLimit}
 use Rattle.meaning.specs.Base.{In, keep, consIf, total, isEmpty}
 use Rattle.meaning.specs.Grammar.{Symbol, Occurrence, Rule, Condition, Production, Grammar, addedFor, productionAt, conditionPosition, mapRule, mapCondition, conditionsAt}
 use Rattle.meaning.specs.Rules.{WellFormed}
@@ -103,7 +103,7 @@ module _ (g : Grammar) (p : Production) where
 
 -- ---- all of it
 
-bodies-most : (g : Grammar) (ps : List Production) → ((p : Production) → In p ps → length (p .right) ≤ 12) → total (map (bodySize g) ps) ≤ 37 * length ps + 3 * total (map (λ p. length (p .rules)) ps) + 4 * total (map (λ p. length (p .conditions)) ps)
+bodies-most : (g : Grammar) (ps : List Production) → ((p : Production) → In p ps → length (p .right) ≤ symbolsLimit) → total (map (bodySize g) ps) ≤ 37 * length ps + 3 * total (map (λ p. length (p .rules)) ps) + 4 * total (map (λ p. length (p .conditions)) ps)
 bodies-most g [] h = omega arith
 bodies-most g (p ∷ ps) h = omega (arith, body-most g p, h p (inl refl), bodies-most g ps (λ q i. h q (inr i)))
 

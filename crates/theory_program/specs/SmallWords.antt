@@ -8,13 +8,13 @@ use mathlib.Core.List.{List, [], _∷_, _++_, map}
 use mathlib.Core.Option.{none, some}
 use lib.ListN.{length, replicate, length-append}
 use lib.Dec.{eqb}
-use Rattle.meaning.specs.Limits.{areaLength}
+use Rattle.meaning.specs.Limits.{areaLength, productionsLimit, symbolsLimit}
 use Rattle.meaning.specs.Base.{In, countFrom, total}
 use Rattle.meaning.specs.Grammar.{Symbol, terminal, nonterminal, Function, const, copy, binary, binaryNumber, addc, quot, Condition, range, atmost, Production, Grammar, syn, nonterminalCount, productionAt}
 use Rattle.meaning.specs.Rules.{Known, WellFormed}
 use Rattle.meaning.specs.Scheme.{Instruction, add, evaluate, expect, test, remove, scheme, entryTests}
 use Rattle.meaning.specs.Sets.{has, starts}
-use Rattle.meaning.specs.Program.{concat, packed, functionWords, ruleWords, conditionWords, symbolHead, instructionWords, schemeWords, expectsAt, entryWords, schemeOffset, bodyWords, bodySize, bodiesFrom, firstOf, recordWords}
+use Rattle.meaning.specs.Program.{concat, packed, functionWords, ruleWords, conditionWords, symbolHead, instructionWords, schemeWords, expectsAt, entryWords, schemeOffset, bodyWords, bodySize, bodiesFrom, firstOf, recordWords, headOf, addOperation, evaluateOperation, testOperation, removeOperation}
 use Rattle.meaning.specs.Program.{recordsFrom, waitWord, waitsFrom, waitRow, waits, firstAlternative, entryOf, directoryWord, directory, bodiesAddress, bodyAddress, schemeAddress, segmentWords, programOf, carriers}
 use Rattle.theory_base.specs.Members.{map-in, in-append}
 use Rattle.theory_table.specs.Numbers.{unsigned-small, divisor-in, binary-most}
@@ -88,11 +88,11 @@ symbol-small g w (terminal t) k = omega (arith, w .terminals .1)
 symbol-small g w (nonterminal n) k = omega (arith, w .nonterminals .1)
 
 instruction-small : (g : Grammar) → WellFormed g → (i : Instruction) → ProperInstruction g i → Small (instructionWords i)
-instruction-small g w (add n) p = small-cons (0 + 8 * n) [] (omega (arith, p .1)) small-nil
-instruction-small g w (evaluate rs) p = small-cons (1 + 8 * length rs) (concat (map ruleWords rs)) (omega (arith, p .1)) (small-concat ruleWords rs (λ r i. function-small (r .target) (r .function) (p .2 r i)))
+instruction-small g w (add n) p = small-cons (headOf addOperation n) [] (omega (arith, p .1)) small-nil
+instruction-small g w (evaluate rs) p = small-cons (headOf evaluateOperation (length rs)) (concat (map ruleWords rs)) (omega (arith, p .1)) (small-concat ruleWords rs (λ r i. function-small (r .target) (r .function) (p .2 r i)))
 instruction-small g w (expect x) p = small-cons (symbolHead x) [] (symbol-small g w x p) small-nil
-instruction-small g w (test cs) p = small-cons (4 + 8 * length cs) (concat (map conditionWords cs)) (omega (arith, p .1)) (small-concat conditionWords cs (λ c i. condition-small c (p .2 c i)))
-instruction-small g w (remove n) p = small-cons (5 + 8 * n) [] (omega arith) small-nil
+instruction-small g w (test cs) p = small-cons (headOf testOperation (length cs)) (concat (map conditionWords cs)) (omega (arith, p .1)) (small-concat conditionWords cs (λ c i. condition-small c (p .2 c i)))
+instruction-small g w (remove n) p = small-cons (headOf removeOperation n) [] (omega arith) small-nil
 
 first-below : (f : Production → Bool) (i : ℕ) (ps : List Production) → firstOf f i ps ≤ i + length ps
 first-below f i [] = omega arith
@@ -118,7 +118,7 @@ module _ (g : Grammar) (w : WellFormed g) where
   bodies-small a [] h l = small-nil
   bodies-small a (p ∷ ps) h l = small-append (bodyWords g a p) (bodiesFrom g (a + bodySize g p) ps) (body-small a p (h p (inl refl)) (omega arith)) (bodies-small (a + bodySize g p) ps (λ q i. h q (inr i)) (omega arith))
 
-  record-small : (a i : ℕ) (p : Production) (later : List Production) → In p (g .productions) → a + bodySize g p ≤ areaLength → suc i + length later ≤ 128 → Small (recordWords g a i p later)
+  record-small : (a i : ℕ) (p : Production) (later : List Production) → In p (g .productions) → a + bodySize g p ≤ areaLength → suc i + length later ≤ productionsLimit → Small (recordWords g a i p later)
   record-small a i p later j l m =
       let f = w .each p j in
       let next = first-below (λ q. eqb (q .left) (p .left)) (suc i) later in
@@ -126,7 +126,7 @@ module _ (g : Grammar) (w : WellFormed g) where
       each-small (recordWords g a i p later)
       (omega (arith, f .left, w .nonterminals .1), (omega (arith, next), (bits-small (starts g p) 0 32, (bits-small (starts g p) 32 32, (omega arith, (omega (arith, tests), (omega arith, (omega (arith, f .short), tt))))))))
 
-  records-small : (a i : ℕ) (ps : List Production) → ((p : Production) → In p ps → In p (g .productions)) → a + total (map (bodySize g) ps) ≤ areaLength → i + length ps ≤ 128 → Small (recordsFrom g a i ps)
+  records-small : (a i : ℕ) (ps : List Production) → ((p : Production) → In p ps → In p (g .productions)) → a + total (map (bodySize g) ps) ≤ areaLength → i + length ps ≤ productionsLimit → Small (recordsFrom g a i ps)
   records-small a i [] h l m = small-nil
   records-small a i (p ∷ ps) h l m = small-append (recordWords g a i p ps) (recordsFrom g (a + bodySize g p) (suc i) ps) (record-small a i p ps (h p (inl refl)) (omega arith) (omega arith)) (records-small (a + bodySize g p) (suc i) ps (λ q j. h q (inr j)) (omega arith) (omega arith))
 
@@ -145,7 +145,7 @@ module _ (g : Grammar) (w : WellFormed g) where
   wait-row-small : (p : Production) → In p (g .productions) → Small (waitRow g p)
   wait-row-small p i =
       let f = w .each p i in
-      small-append (waitsFrom g (p .left) 0 (p .right)) (replicate (12 - length (p .right)) 0) (waits-small (p .left) 0 (p .right) (f .left) (f .symbols) (omega (arith, f .short))) (none-small (12 - length (p .right)))
+      small-append (waitsFrom g (p .left) 0 (p .right)) (replicate (symbolsLimit - length (p .right)) 0) (waits-small (p .left) 0 (p .right) (f .left) (f .symbols) (omega (arith, f .short))) (none-small (symbolsLimit - length (p .right)))
 
   -- where a scheme begins is inside the program
   pub scheme-below : (p : ℕ) → p < length (g .productions) → schemeAddress g p ≤ areaLength

@@ -5,6 +5,7 @@ use mathlib.Core.Path.{_≡_, sym, ap, _∙_, subst}
 use mathlib.Core.List.{List, [], _∷_, _++_, map}
 use lib.ListN.{length, getD, take, replicate, getD-replicate, length-take, List·getD-append}
 use lib.Seq.{getD-append-add}
+use Rattle.meaning.specs.Limits.{attributesLimit, symbolsLimit}
 use Rattle.meaning.specs.Base.{total}
 use Rattle.meaning.specs.Grammar.{Symbol, terminal, nonterminal, Production, Grammar, inh, syn, markedFor, symbolAt, productionAt}
 use Rattle.meaning.specs.Rules.{Known, WellFormedProduction, WellFormed}
@@ -53,16 +54,16 @@ waits-word g l n (x ∷ xs) (suc k) h = waits-word g l (n + syn g x) xs k (omega
 pub row-word : (g : Grammar) (p : Production) (k : ℕ) → k < length (p .right) → getD (waitRow g p) k 0 ≡ waitWord g (p .left) (registersPassed g p k) (symbolAt p (suc k))
 row-word g p k h =
     let ws = waitsFrom g (p .left) 0 (p .right) in
-    List·getD-append ws (replicate (12 - length (p .right)) 0) 0 k (omega (arith, waits-from-length g (p .left) 0 (p .right)))
+    List·getD-append ws (replicate (symbolsLimit - length (p .right)) 0) 0 k (omega (arith, waits-from-length g (p .left) 0 (p .right)))
     ∙ (waits-word g (p .left) 0 (p .right) k h ∙ ap (λ r. waitWord g (p .left) r (symbolAt p (suc k))) (omega arith))
 
-pub row-rest : (g : Grammar) (p : Production) (k : ℕ) → length (p .right) ≤ k → k < 12 → getD (waitRow g p) k 0 ≡ 0
+pub row-rest : (g : Grammar) (p : Production) (k : ℕ) → length (p .right) ≤ k → k < symbolsLimit → getD (waitRow g p) k 0 ≡ 0
 row-rest g p k h m =
     let ws = waitsFrom g (p .left) 0 (p .right) in
-    let rest : List ℕ = replicate (12 - length (p .right)) 0 in
+    let rest : List ℕ = replicate (symbolsLimit - length (p .right)) 0 in
     let i = k - length (p .right) in
     ap (λ j. getD (ws ++ rest) j 0) (omega (arith, waits-from-length g (p .left) 0 (p .right)))
-    ∙ (getD-append-add ws rest i 0 ∙ getD-replicate {A = ℕ} (12 - length (p .right)) i 0 0 (omega arith))
+    ∙ (getD-append-add ws rest i 0 ∙ getD-replicate {A = ℕ} (symbolsLimit - length (p .right)) i 0 0 (omega arith))
 
 -- ---- of a well-formed grammar
 
@@ -71,8 +72,8 @@ module _ (g : Grammar) (w : WellFormed g) where
   byte-most (terminal t) k = omega (arith, w .terminals .1)
   byte-most (nonterminal n) k = omega (arith, w .nonterminals .1)
 
-  pub registers-most : (p : Production) → length (p .right) ≤ 12 → (k : ℕ) → registersPassed g p k ≤ 96
-  registers-most p s k = omega (arith, total-most (syn g) 8 (λ x. omega (arith, att-most g w x)) (take k (p .right)), length-take k (p .right))
+  pub registers-most : (p : Production) → length (p .right) ≤ symbolsLimit → (k : ℕ) → registersPassed g p k ≤ 96
+  registers-most p s k = omega (arith, total-most (syn g) attributesLimit (λ x. omega (arith, att-most g w x)) (take k (p .right)), length-take k (p .right))
 
 -- v is the word of a place with k symbols of p passed that has a symbol to wait at
 pub record Waits (g : Grammar) (p : Production) (k v : ℕ) : Type 0 where
@@ -113,5 +114,5 @@ module _ {g : Grammar} {ws : List ℕ} (b : Begins g ws) (w : WellFormed g) (p :
       let f = well-formed-at g w p l in
       subst (Waits g (productionAt g p) k) (sym (wait-at b w p l k (omega (arith, f .short)) ∙ row-word g (productionAt g p) k h)) (word-waits g w (productionAt g p) f k h)
 
-  pub place-rests : length (productionAt g p .right) ≤ k → k < 12 → getD ws (waitAddress g p + k) 0 ≡ 0
+  pub place-rests : length (productionAt g p .right) ≤ k → k < symbolsLimit → getD ws (waitAddress g p + k) 0 ≡ 0
   place-rests h m = wait-at b w p l k m ∙ row-rest g (productionAt g p) k h m

@@ -3,6 +3,7 @@ use Prim.Native.Nat.{ℕ, _≤_}
 use mathlib.Core.Logic.{_⊎_, inl, inr}
 use mathlib.Core.Bool.{_&&_, not}
 use lib.Dec.{T, T-not}
+use Rattle.meaning.specs.Limits.{attributesLimit}
 use Rattle.meaning.specs.Base.{all}
 use Rattle.meaning.specs.Grammar.{Grammar, productionAt}
 use Rattle.meaning.specs.Value.{holds}
@@ -26,7 +27,7 @@ module _ (g : Grammar) (p q : ℕ) (a : Alternatives g p q) where
   fits : T (all (entry n) (ofBoth g p q))
   fits = Clashes.fits (a .wellFormed) p q (a .first) (a .second) (a .left)
 
-  few : n ≤ 8
+  few : n ≤ attributesLimit
   few = Clashes.few (a .wellFormed) p
 
   known : AllKnown (ofBoth g p q)

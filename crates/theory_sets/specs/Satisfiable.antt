@@ -8,6 +8,7 @@ use mathlib.Core.List.{List, [], _∷_, map}
 use lib.ListN.{getD, length, length-map}
 use lib.Dec.{T}
 use lib.IntN.{ℤ, pos}
+use Rattle.meaning.specs.Limits.{attributesLimit}
 use Rattle.meaning.specs.Base.{all, countFrom}
 use Rattle.meaning.specs.Grammar.{Condition, range, atmost}
 use Rattle.meaning.specs.Rules.{fourBytes}
@@ -21,7 +22,7 @@ use Rattle.theory_differences.specs.Building.{solvable-values, values-solvable}
 use Rattle.theory_sets.specs.Intervals.{among, among-is, entry, compared, entry-wider, entry-known, common, holding}
 use Rattle.theory_sets.specs.Tests.{all-map, all-map₂, getD-countFrom}
 
-module _ (k : ℕ) (few : k ≤ 8) (cs : List (Condition ℕ)) (fits : T (all (entry k) cs)) where
+module _ (k : ℕ) (few : k ≤ attributesLimit) (cs : List (Condition ℕ)) (fits : T (all (entry k) cs)) where
   abbrev Values : Type 0
   Values = (vs : List ℤ) × (length vs ≡ k) × T (all inRange vs) × T (all (holds (valueIn vs)) cs)
 
@@ -84,23 +85,23 @@ module _ (j m : ℕ) (few : j ≤ m) (cs : List (Condition ℕ)) (fits : T (all 
   resized-holds h = all-map₂ (entry j) (holds (valueIn vs)) (holds (valueIn (resized m vs))) holding-still cs fits h
 
 -- with 8 attributes it is as with the k there are
-pub satisfiable-eight : (k : ℕ) → k ≤ 8 → (cs : List (Condition ℕ)) → T (all (entry k) cs) → satisfiable 8 cs ≡ satisfiable k cs
-satisfiable-eight k few cs fits = same-truth (satisfiable 8 cs) (satisfiable k cs) down up
+pub satisfiable-eight : (k : ℕ) → k ≤ attributesLimit → (cs : List (Condition ℕ)) → T (all (entry k) cs) → satisfiable attributesLimit cs ≡ satisfiable k cs
+satisfiable-eight k few cs fits = same-truth (satisfiable attributesLimit cs) (satisfiable k cs) down up
   where
-    all-eight : 8 ≤ 8
+    all-eight : attributesLimit ≤ attributesLimit
     all-eight = omega arith
 
-    wide : T (all (entry 8) cs)
-    wide = all-map (entry k) (entry 8) (entry-wider k 8 few) cs fits
+    wide : T (all (entry attributesLimit) cs)
+    wide = all-map (entry k) (entry attributesLimit) (entry-wider k attributesLimit few) cs fits
 
-    down : T (satisfiable 8 cs) → T (satisfiable k cs)
+    down : T (satisfiable attributesLimit cs) → T (satisfiable k cs)
     down t =
-        let v = satisfiable-values 8 all-eight cs wide t in
+        let v = satisfiable-values attributesLimit all-eight cs wide t in
         let r = resized k (v .0) in
         values-satisfiable k few cs fits r (size k k (omega arith) cs fits (v .0)) (resized-ranged k k (omega arith) cs fits (v .0) (v .2)) (resized-holds k k (omega arith) cs fits (v .0) (v .3))
 
-    up : T (satisfiable k cs) → T (satisfiable 8 cs)
+    up : T (satisfiable k cs) → T (satisfiable attributesLimit cs)
     up t =
         let v = satisfiable-values k few cs fits t in
-        let r = resized 8 (v .0) in
-        values-satisfiable 8 all-eight cs wide r (size k 8 few cs fits (v .0)) (resized-ranged k 8 few cs fits (v .0) (v .2)) (resized-holds k 8 few cs fits (v .0) (v .3))
+        let r = resized attributesLimit (v .0) in
+        values-satisfiable attributesLimit all-eight cs wide r (size k attributesLimit few cs fits (v .0)) (resized-ranged k attributesLimit few cs fits (v .0) (v .2)) (resized-holds k attributesLimit few cs fits (v .0) (v .3))

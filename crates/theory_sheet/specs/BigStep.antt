@@ -23,7 +23,8 @@ use Rattle.theory_complete.specs.Run.{Steps, done, executed, predicted, accepte
 use Rattle.theory_complete.specs.PredictsOfWalk.{Foreseen, foresee-all}
 use Rattle.theory_complete.specs.SubtreeComplete.{walks}
 use Rattle.theory_complete.specs.SegmentComplete.{opening-expects, tokens-known}
-use Rattle.theory_sheet.specs.Whole.{runFrom, Failing, fails-behind, unread-same, unread-next}
+use Rattle.theory_answers.specs.Runs.{unread-same}
+use Rattle.theory_sheet.specs.Whole.{runFrom, Failing, fails-behind, unread-next}
 use Rattle.theory_sheet.specs.Walking.{Fair, idle-stuck, idle-goes, look-stuck, look-goes, look-35, look-over}
 use Rattle.theory_sheet.specs.Segment.{answerOf, openedAs, segmentRun}
 

@@ -3,7 +3,7 @@ use Prim.Native.Nat.{ℕ, suc, _+_, _-_, _≤_}
 use native.Mathlib.Omega.{arith}
 use mathlib.Core.Path.{_≡_, refl, sym, ap, _∙_, subst}
 use mathlib.Core.Logic.{_⊎_, inl, inr}
-use mathlib.Core.List.{List, [], _∷_, _++_, append-assoc, append-nil}
+use mathlib.Core.List.{List, [], _∷_, _++_, append-assoc, append-nil, head-eq-of-cons-eq}
 use lib.ListN.{length, drop, length-append}
 use lib.Seq.{drop-drop}
 use lib.Dec.{T}
@@ -81,11 +81,8 @@ module _ {g : Grammar} {tokens : List Leaf} where
   -- the instruction at hand, and the point that shows just it
   pub stand-ready : WellFormed g → {o : Open} {bs : List Ancestor} {c : Config} → Stand g tokens o bs c → (p : ℕ) (i : Instruction) (is : List Instruction) (fs : List Frame) → c .frames ≡ frame p (i ∷ is) ∷ fs → ShowsInstruction g o bs i is (c .registers)
   stand-ready f {o} {bs} {c} s p i is fs e =
-      let top : frame (o .production) (drawRest g o (s .point)) ≡ frame p (i ∷ is) = first (s .frames ∙ e) in
+      let top : frame (o .production) (drawRest g o (s .point)) ≡ frame p (i ∷ is) = head-eq-of-cons-eq (s .frames ∙ e) in
       ready g f o bs (s .good .stands) i is (s .point) (c .registers) (s .good .node) (ap (λ z. z .rest) top) (s .registers)
-    where
-      first : {a b : Frame} {xs ys : List Frame} → a ∷ xs ≡ b ∷ ys → a ≡ b
-      first e = cc
 
 -- ---- one move
 

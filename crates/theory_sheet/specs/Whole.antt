@@ -13,6 +13,7 @@ use Rattle.meaning.specs.Machine.{Config, Lent, comes, ends, Outcome, moved, bl
 use Rattle.theory_base.specs.Members.{both, T→true}
 use Rattle.theory_base.specs.Steps.{at-hand, advance-stopped, advance-failed, advance-moved}
 use Rattle.theory_answers.specs.Bounds.{counts, look-free, no-read}
+use Rattle.theory_answers.specs.Runs.{unread-same}
 
 -- what a configuration with tokens to come does next: the segment is over, a refusal, or what a move leads to
 pub data WhatNext : Type 0 where
@@ -107,9 +108,6 @@ fedFinished g lent us c = andThen (feedAll g lent us c) (finishAll g lent)
 -- one round of `advance`
 abbrev round : Bool → Outcome → Config → (Config → Settled) → Settled
 round b o c f = elim b [ true ↦ stopped c | false ↦ elim o [ blocked k ↦ failed c k | moved d ↦ f d ] ]
-
-pub unread-same : (c d : Config) (us : List Leaf) → d .tokens ≡ c .tokens → unread c d us ≡ us
-unread-same c d us e = let z : d .tokens - c .tokens ≡ 0 = omega (arith, e) in ap (λ n. drop n us) z
 
 pub unread-next : (c d : Config) (u : Leaf) (us : List Leaf) → d .tokens ≡ suc (c .tokens) → unread c d (u ∷ us) ≡ us
 unread-next c d u us e = let z : d .tokens - c .tokens ≡ 1 = omega (arith, e) in ap (λ n. drop n (u ∷ us)) z

@@ -3,7 +3,7 @@ use Prim.Native.Nat.{ℕ, suc, _≤_, _<_, _-_}
 use native.Mathlib.Omega.{arith}
 use mathlib.Core.Path.{_≡_, refl, sym, ap, _∙_, subst}
 use mathlib.Core.Logic.{_⊎_, inl, inr}
-use mathlib.Core.List.{List, [], _∷_, _++_, append-assoc}
+use mathlib.Core.List.{List, [], _∷_, _++_, append-assoc, tail-eq-of-cons-eq}
 use lib.ListN.{length, length-append, length-replicate, length-map}
 use lib.IntN.{ℤ}
 use Rattle.theory_answers.specs.ShapeMoves.{IsAhead}
@@ -102,9 +102,6 @@ awaited p q x y is js fs gs e =
     let r : _≡_ {A = List Instruction} (expect x ∷ is) (expect y ∷ js) = ap (λ f. f .rest) h in
     cc
 
-tail-is : (f h : Frame) (fs hs : List Frame) → f ∷ fs ≡ h ∷ hs → fs ≡ hs
-tail-is f h fs hs e = cc
-
 -- from a predict to the remove that leaves its part
 by-remove : (g : Grammar) → WellFormed g → (lent : Lent) (ts us vs : List Leaf) → T (all (isLeafOf g) us) → (c d e z : Config) → Shows g ts c
     → (n : ℕ) (x : Symbol) (is : List Instruction) (fs : List Frame) → c .frames ≡ frame n (expect x ∷ is) ∷ fs
@@ -149,7 +146,7 @@ by-remove g f lent ts us vs ok c d e z s num x is fs cf h more n j less = record
     isX : a .symbol ≡ x
     isX =
         let drawn : drawFrames g (partOf (nodeOf (a .production) (a .inherited) []) (fresh (a .ahead)) (waitingAt o (a .symbol) (a .after) ∷ bs)) ≡ d .frames = ap (drawFrames g) (sym (a .isPart)) ∙ v .frames in
-        let below = tail-is _ _ _ _ (drawn ∙ sym (ap (λ k. k .frames) (pushed .1 .result))) in
+        let below = tail-eq-of-cons-eq (drawn ∙ sym (ap (λ k. k .frames) (pushed .1 .result))) in
         awaited _ _ _ _ _ _ _ _ (below ∙ cf)
 
     w : ℕ

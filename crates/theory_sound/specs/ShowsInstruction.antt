@@ -3,14 +3,14 @@ use Prim.Native.Nat.{ℕ, suc}
 use native.Mathlib.Omega.{arith}
 use mathlib.Core.Path.{_≡_, refl, sym, ap, _∙_, subst}
 use mathlib.Core.Bool.{Bool, true, false, not, cond}
-use mathlib.Core.List.{List, [], _∷_, _++_, map}
+use mathlib.Core.List.{List, [], _∷_, _++_, map, head-eq-of-cons-eq, cons≢nil}
 use lib.ListN.{length}
 use lib.Dec.{T, eqb, ltb, nltb→le}
 use lib.IntN.{ℤ}
 use Rattle.meaning.specs.Base.{all, consIf, isEmpty}
 use Rattle.meaning.specs.Grammar.{Grammar, Production, Symbol, nonterminal, Rule, Condition, syn, addedFor, productionAt, whole, Leaf}
 use Rattle.meaning.specs.Value.{apply, holds, inRange}
-use Rattle.meaning.specs.Scheme.{Instruction, add, evaluate, expect, test, remove, removed, inheritedRules, synthesizedRules, testsAfter, schemeEnd}
+use Rattle.meaning.specs.Scheme.{Instruction, add, evaluate, test, remove, removed, inheritedRules, synthesizedRules, testsAfter, schemeEnd}
 use Rattle.meaning.specs.Machine.{Frame, Config, readRegister, writeAll}
 use Rattle.meaning.specs.Tree.{Tree, TreeOf}
 use Rattle.meaning.specs.Selectors.{Due, adds, hands, waits, tests, closes, removes, Found, SelectorsFind}
@@ -28,21 +28,15 @@ pub record ShowsInstruction (g : Grammar) (o : Open) (bs : List Ancestor) (i : I
   pub registers : drawRegisters g (partOf o point bs) ≡ rs
   pub due : Due g o i point
 
-first-is : (i j : Instruction) (is js : List Instruction) → i ∷ is ≡ j ∷ js → i ≡ j
-first-is i j is js e = cc
-
-no-first : {A : Type 0} {i : Instruction} {is : List Instruction} → [] ≡ i ∷ is → A
-no-first e = absurd (let z : _≡_ {A = ℕ} 0 1 = cc in omega arith)
-
 module _ (g : Grammar) (f : WellFormed g) (o : Open) (bs : List Ancestor) (st : Stands g (o .production) (o .inherited) bs) (i : Instruction) (is : List Instruction) where
   p : Production
   p = productionAt g (o .production)
 
   ready-valued : (x : Symbol) (vs : List ℤ) (xs : List Symbol) (rs : List ℤ) → GoodNode g o (valued x vs xs) → drawRest g o (valued x vs xs) ≡ i ∷ is → drawRegisters g (partOf o (valued x vs xs) bs) ≡ rs → ShowsInstruction g o bs i is rs
-  ready-valued x vs xs rs gn e r = record { point = valued x vs xs; good = gn; rest = e; registers = r; due = subst (λ j. Due g o j (valued x vs xs)) (first-is (expect x) i _ is e) (waits x vs xs) }
+  ready-valued x vs xs rs gn e r = record { point = valued x vs xs; good = gn; rest = e; registers = r; due = subst (λ j. Due g o j (valued x vs xs)) (head-eq-of-cons-eq e) (waits x vs xs) }
 
   ready-closing : (ss rs : List ℤ) → GoodNode g o (closing ss) → drawRest g o (closing ss) ≡ i ∷ is → drawRegisters g (partOf o (closing ss) bs) ≡ rs → ShowsInstruction g o bs i is rs
-  ready-closing ss rs gn e r = record { point = closing ss; good = gn; rest = e; registers = r; due = subst (λ j. Due g o j (closing ss)) (first-is (remove (removed g (productionAt g (o .production)))) i [] is e) (removes ss) }
+  ready-closing ss rs gn e r = record { point = closing ss; good = gn; rest = e; registers = r; due = subst (λ j. Due g o j (closing ss)) (head-eq-of-cons-eq e) (removes ss) }
 
   ready-added : (x : Symbol) (xs : List Symbol) (rs : List ℤ) → GoodNode g o (added x xs) → drawRest g o (added x xs) ≡ i ∷ is → drawRegisters g (partOf o (added x xs) bs) ≡ rs → ShowsInstruction g o bs i is rs
   unfolding p
@@ -65,7 +59,7 @@ module _ (g : Grammar) (f : WellFormed g) (o : Open) (bs : List Ancestor) (st : 
           ready-valued x (k .made) xs rs (gn .0, (gn .1 .0, gn .1 .1, k .handed)) (ap (λ l. consIf (not (isEmpty l)) (evaluate l) (waitRest g (o .production) n x xs)) (sym z) ∙ e) (sym same ∙ r)
       go (q ∷ qs) z =
           let a : drawRest g o (added x xs) ≡ evaluate (inheritedRules g p (suc n)) ∷ waitRest g (o .production) n x xs = ap (λ l. consIf (not (isEmpty l)) (evaluate l) (waitRest g (o .production) n x xs)) z ∙ ap (λ l. evaluate l ∷ waitRest g (o .production) n x xs) (sym z) in
-          record { point = added x xs; good = gn; rest = e; registers = r; due = subst (λ j. Due g o j (added x xs)) (first-is (evaluate (inheritedRules g p (suc n))) i (waitRest g (o .production) n x xs) is (sym a ∙ e)) (hands x xs) }
+          record { point = added x xs; good = gn; rest = e; registers = r; due = subst (λ j. Due g o j (added x xs)) (head-eq-of-cons-eq (sym a ∙ e)) (hands x xs) }
 
   ready-last : (rs : List ℤ) → GoodNode g o (fresh []) → drawRest g o (fresh []) ≡ i ∷ is → drawRegisters g (partOf o (fresh []) bs) ≡ rs → ShowsInstruction g o bs i is rs
   unfolding p
@@ -84,10 +78,10 @@ module _ (g : Grammar) (f : WellFormed g) (o : Open) (bs : List Ancestor) (st : 
           let rules = synthesizedRules g p in
           let last = remove (removed g p) ∷ [] in
           let a : consIf (not (isEmpty rules)) (evaluate rules) last ≡ evaluate rules ∷ last = ap (λ l. consIf (not (isEmpty l)) (evaluate l) last) z ∙ ap (λ l. evaluate l ∷ last) (sym z) in
-          record { point = fresh []; good = gn; rest = e; registers = r; due = subst (λ j. Due g o j (fresh [])) (first-is (evaluate (synthesizedRules g p)) i (remove (removed g p) ∷ []) is (sym a ∙ h)) closes }
+          record { point = fresh []; good = gn; rest = e; registers = r; due = subst (λ j. Due g o j (fresh [])) (head-eq-of-cons-eq (sym a ∙ h)) closes }
 
       tail : (b : Bool) → eqb (o .production) whole ≡ b → ShowsInstruction g o bs i is rs
-      tail true b = no-first (subst (λ c. cond c [] (schemeEnd g p) ≡ i ∷ is) b e)
+      tail true b = absurd (cons≢nil (sym (subst (λ c. cond c [] (schemeEnd g p) ≡ i ∷ is) b e)))
       tail false b = rules-due b (synthesizedRules g p) refl (subst (λ c. cond c [] (schemeEnd g p) ≡ i ∷ is) b e)
 
   ready-fresh : (xs : List Symbol) (rs : List ℤ) → GoodNode g o (fresh xs) → drawRest g o (fresh xs) ≡ i ∷ is → drawRegisters g (partOf o (fresh xs) bs) ≡ rs → ShowsInstruction g o bs i is rs
@@ -97,7 +91,7 @@ module _ (g : Grammar) (f : WellFormed g) (o : Open) (bs : List Ancestor) (st : 
       go : (b : Bool) → ltb 0 (addedFor g x) ≡ b → ShowsInstruction g o bs i is rs
       go true b =
           let a : add (addedFor g x) ∷ drawRest g o (added x xs) ≡ i ∷ is = subst (λ c. consIf c (add (addedFor g x)) (drawRest g o (added x xs)) ≡ i ∷ is) b e in
-          record { point = fresh (x ∷ xs); good = gn; rest = e; registers = r; due = subst (λ j. Due g o j (fresh (x ∷ xs))) (first-is (add (addedFor g x)) i (drawRest g o (added x xs)) is a) (adds x xs) }
+          record { point = fresh (x ∷ xs); good = gn; rest = e; registers = r; due = subst (λ j. Due g o j (fresh (x ∷ xs))) (head-eq-of-cons-eq a) (adds x xs) }
       go false b =
           let z : addedFor g x ≡ 0 = omega (arith, nltb→le 0 (addedFor g x) (rw b tt)) in
           let none : marks (addedFor g x) ≡ [] = ap marks z in
@@ -122,7 +116,7 @@ module _ (g : Grammar) (f : WellFormed g) (o : Open) (bs : List Ancestor) (st : 
           ready-fresh xs rs (gn .0, (gn .1 .0, past)) (ap (λ l. consIf (not (isEmpty l)) (test l) (freshRest g (o .production) n xs)) (sym z) ∙ e) r
       go (c ∷ cs) z =
           let a : drawRest g o (left xs) ≡ test (testsAfter g p n) ∷ freshRest g (o .production) n xs = ap (λ l. consIf (not (isEmpty l)) (test l) (freshRest g (o .production) n xs)) z ∙ ap (λ l. test l ∷ freshRest g (o .production) n xs) (sym z) in
-          record { point = left xs; good = gn; rest = e; registers = r; due = subst (λ j. Due g o j (left xs)) (first-is (test (testsAfter g p n)) i (freshRest g (o .production) n xs) is (sym a ∙ e)) (tests xs) }
+          record { point = left xs; good = gn; rest = e; registers = r; due = subst (λ j. Due g o j (left xs)) (head-eq-of-cons-eq (sym a ∙ e)) (tests xs) }
 
   pub ready : (pt : Point) (rs : List ℤ) → GoodNode g o pt → drawRest g o pt ≡ i ∷ is → drawRegisters g (partOf o pt bs) ≡ rs → ShowsInstruction g o bs i is rs
   ready (fresh xs) rs gn e r = ready-fresh xs rs gn e r
@@ -143,9 +137,6 @@ found g f o bs st (closing ss) gn = tt
 
 -- ---- the demand: at each move, whatever the tokens
 
-frame-rest : (f h : Frame) (fs hs : List Frame) → f ∷ fs ≡ h ∷ hs → f ≡ h
-frame-rest f h fs hs e = cc
-
 -- every part with the node and the ancestors shown must be one of each tree of the segment
 pub selectors-find : (g : Grammar) → WellFormed g → (ts us : List Leaf) (c : Config) (s : Shows g ts c)
     → ((t : Tree) → TreeOf g (ts ++ us) t → (pt : Point) → GoodNode g (s .part .node) pt → PartOf g t (partOf (s .part .node) pt (s .part .below)))
@@ -154,7 +145,7 @@ selectors-find g f ts us c s k n i is fs e =
     let q : Part = s .part in
     let o : Open = q .node in
     let bs : List Ancestor = q .below in
-    let h : frame (o .production) (drawRest g o (q .point)) ≡ frame n (i ∷ is) = frame-rest (frame (o .production) (drawRest g o (q .point))) (frame n (i ∷ is)) (map (drawFrame g) bs) fs (s .frames ∙ e) in
+    let h : frame (o .production) (drawRest g o (q .point)) ≡ frame n (i ∷ is) = head-eq-of-cons-eq (s .frames ∙ e) in
     let z : drawRest g o (q .point) ≡ i ∷ is = ap (λ a. a .rest) h in
     let r : ShowsInstruction g o bs i is (c .registers) = ready g f o bs (s .good .stands) i is (q .point) (c .registers) (s .good .node) z (s .registers) in
     record {

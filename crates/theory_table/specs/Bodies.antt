@@ -9,7 +9,7 @@ use lib.ListN.{length, drop, length-map}
 use lib.IntN.{pos}
 use lib.Signed.{leZ}
 use lib.Dec.{T, eqb, ltb, leb, eqb→eq, leb→le, ltb→lt}
-use Rattle.meaning.specs.Limits.{rulesLimit, conditionsLimit}
+use Rattle.meaning.specs.Limits.{rulesLimit, conditionsLimit, attributesLimit, nonterminalsLimit, productionsLimit, symbolsLimit, terminalsLimit, divisorLimit}
 use Rattle.meaning.specs.Base.{all}
 use Rattle.meaning.specs.Layout.{field, symbolByte, ruleBytes, conditionBytes, Bytes}
 use Rattle.meaning.specs.Table.{State, production, rule, condition, byte, within, symbolOf, ruleOf, conditionOf, ruleLength, conditionLength, constantAt, operands, reads, occurrenceKnown, current}
@@ -40,7 +40,7 @@ rule-body s b h p =
     right = ltb 8 (byte b 2) || eqb (length b) (ruleLength (byte b 2))
 
     divides : Bool
-    divides = not (eqb (byte b 2) 8) || (leZ (pos 1) (constantAt b 5) && leZ (constantAt b 5) (pos 1000000))
+    divides = not (eqb (byte b 2) 8) || (leZ (pos 1) (constantAt b 5) && leZ (constantAt b 5) (pos divisorLimit))
 
     fits : T right
     fits = both (leb 3 (length b) && ltb (s .rules) rulesLimit) right (both (leb 3 (length b) && ltb (s .rules) rulesLimit && right) divides (p .limits) .0) .1
@@ -60,7 +60,7 @@ condition-body s b h p =
 
 -- the body of a production: left side, length, symbols
 pub production-length : (s : State) (b : List ℕ) → Faultless s production b → length b ≡ 2 + byte b 1
-production-length s b p = eqb→eq (length b) (2 + byte b 1) (both (leb 2 (length b) && leb (byte b 1) 12) (eqb (length b) (2 + byte b 1)) (both (leb 2 (length b) && leb (byte b 1) 12 && eqb (length b) (2 + byte b 1)) (ltb (length (s .entries)) 128) (p .limits) .0) .1)
+production-length s b p = eqb→eq (length b) (2 + byte b 1) (both (leb 2 (length b) && leb (byte b 1) symbolsLimit) (eqb (length b) (2 + byte b 1)) (both (leb 2 (length b) && leb (byte b 1) symbolsLimit && eqb (length b) (2 + byte b 1)) (ltb (length (s .entries)) productionsLimit) (p .limits) .0) .1)
 
 pub production-body : (b : List ℕ) → length b ≡ 2 + byte b 1 → b ≡ byte b 0 ∷ length (map symbolOf (drop 2 b)) ∷ map symbolByte (map symbolOf (drop 2 b))
 production-body [] e = absurd (omega arith)
@@ -71,8 +71,8 @@ production-body (x ∷ y ∷ b) e = ap₂ (λ n zs. x ∷ n ∷ zs) (omega (arit
 pub carrier-body : (b : List ℕ) → T (eqb (length b) 1) → b ≡ byte b 0 ∷ []
 carrier-body b t = listed 1 b (eqb→eq (length b) 1 t)
 
-pub counts-body : (b : List ℕ) → T (eqb (length b) 2 && leb (byte b 0 + byte b 1) 8) → b ≡ byte b 0 ∷ byte b 1 ∷ []
-counts-body b t = listed 2 b (eqb→eq (length b) 2 (both (eqb (length b) 2) (leb (byte b 0 + byte b 1) 8) t .0))
+pub counts-body : (b : List ℕ) → T (eqb (length b) 2 && leb (byte b 0 + byte b 1) attributesLimit) → b ≡ byte b 0 ∷ byte b 1 ∷ []
+counts-body b t = listed 2 b (eqb→eq (length b) 2 (both (eqb (length b) 2) (leb (byte b 0 + byte b 1) attributesLimit) t .0))
 
-pub header-body : (b : List ℕ) → T (eqb (length b) 4 && within 1 (byte b 0) 63 && within 1 (byte b 1) 48) → b ≡ byte b 0 ∷ byte b 1 ∷ byte b 2 ∷ byte b 3 ∷ []
-header-body b t = listed 4 b (eqb→eq (length b) 4 (both (eqb (length b) 4) (within 1 (byte b 0) 63) (both (eqb (length b) 4 && within 1 (byte b 0) 63) (within 1 (byte b 1) 48) t .0) .0))
+pub header-body : (b : List ℕ) → T (eqb (length b) 4 && within 1 (byte b 0) terminalsLimit && within 1 (byte b 1) nonterminalsLimit) → b ≡ byte b 0 ∷ byte b 1 ∷ byte b 2 ∷ byte b 3 ∷ []
+header-body b t = listed 4 b (eqb→eq (length b) 4 (both (eqb (length b) 4) (within 1 (byte b 0) terminalsLimit) (both (eqb (length b) 4 && within 1 (byte b 0) terminalsLimit) (within 1 (byte b 1) nonterminalsLimit) t .0) .0))

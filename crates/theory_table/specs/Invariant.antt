@@ -11,7 +11,7 @@ use lib.Seq.{getD-at}
 use lib.IntN.{ℤ, pos, negsuc}
 use lib.Signed.{leZ}
 use lib.Dec.{T, eqb, ltb, leb, eqb→eq, eqb-refl, leb→le, le→leb, ltb→lt, nltb→le, T-not}
-use Rattle.meaning.specs.Limits.{rulesLimit, conditionsLimit}
+use Rattle.meaning.specs.Limits.{rulesLimit, conditionsLimit, attributesLimit, nonterminalsLimit, productionsLimit, symbolsLimit, terminalsLimit, divisorLimit}
 use Rattle.meaning.specs.Base.{all, In, total}
 use Rattle.meaning.specs.Grammar.{Symbol, terminal, nonterminal, Occurrence, Function, const, functionsOf, Rule, Condition, range, atmost, Production, Counts, noCounts, Grammar}
 use Rattle.meaning.specs.Rules.{Operands, Reads, Input, Output, Operand, Distinct, Constant, Proper, InFourBytes}
@@ -36,7 +36,7 @@ constant-in : (b : List ℕ) (i : ℕ) → InFourBytes (constantAt b i)
 constant-in b i = signed-in (((byte b i * 256 + byte b (i + 1)) * 256 + byte b (i + 2)) * 256 + byte b (i + 3))
 
 abbrev divisor : ℤ → Bool
-divisor c = leZ (pos 1) c && leZ c (pos 1000000)
+divisor c = leZ (pos 1) c && leZ c (pos divisorLimit)
 
 constant-of : (b : List ℕ) → T (not (eqb (byte b 2) 8) || divisor (constantAt b 5)) → Constant (functionOf b)
 constant-of b h = go (byte b 2) h
@@ -53,7 +53,7 @@ constant-of b h = go (byte b 2) h
     go (suc (suc (suc (suc (suc zero))))) h = tt
     go (suc (suc (suc (suc (suc (suc zero)))))) h = tt
     go (suc (suc (suc (suc (suc (suc (suc zero))))))) h = constant-in b 5
-    go (suc (suc (suc (suc (suc (suc (suc (suc zero)))))))) h = both (leZ (pos 1) (constantAt b 5)) (leZ (constantAt b 5) (pos 1000000)) h
+    go (suc (suc (suc (suc (suc (suc (suc (suc zero)))))))) h = both (leZ (pos 1) (constantAt b 5)) (leZ (constantAt b 5) (pos divisorLimit)) h
     go (suc (suc (suc (suc (suc (suc (suc (suc (suc f))))))))) h = (tt, tt)
 
 abbrev Ends : Condition Occurrence → Type 0
@@ -89,7 +89,7 @@ KnownIn h (nonterminal n) = n < h .nonterminals
 
 pub record EntryOk (h : Header) (cs : List Counts) (ws : List ℕ) (e : Entry) : Type 0 where
   pub left : e .left < h .nonterminals
-  pub short : length (e .right) ≤ 12
+  pub short : length (e .right) ≤ symbolsLimit
   pub symbols : (x : Symbol) → In x (e .right) → KnownIn h x
   pub targets : (r : Rule Occurrence) → In r (e .rules) → Output (countsOnly cs ws) (bare e) (r .target)
   pub distinct : Distinct (e .rules)
@@ -151,8 +151,8 @@ module _ (s : State) (h : Header) (e : Entry) (k : EntryOk h (s .counts) (s .car
 -- ---- everything read so far
 
 pub record HeaderOk (h : Header) : Type 0 where
-  pub terminals : (1 ≤ h .terminals) × (h .terminals ≤ 63)
-  pub nonterminals : (1 ≤ h .nonterminals) × (h .nonterminals ≤ 48)
+  pub terminals : (1 ≤ h .terminals) × (h .terminals ≤ terminalsLimit)
+  pub nonterminals : (1 ≤ h .nonterminals) × (h .nonterminals ≤ nonterminalsLimit)
   pub start : h .start < h .nonterminals
 
 abbrev pub StartOk : Header → List Counts → Type 0
@@ -172,13 +172,13 @@ conditionCount es = total (map (λ e. length (e .conditions)) es)
 pub record Inv (s : State) : Type 0 where
   pub header : T (isSome (s .header)) → HeaderOk (headerOf s)
   pub fewCounts : length (s .counts) ≤ headerOf s .nonterminals
-  pub attributes : (c : Counts) → In c (s .counts) → c .inherited + c .synthesized ≤ 8
+  pub attributes : (c : Counts) → In c (s .counts) → c .inherited + c .synthesized ≤ attributesLimit
   pub startOk : headerOf s .start < length (s .counts) → StartOk (headerOf s) (reverse (s .counts))
   pub carriers : (t : ℕ) → In t (s .carrying) → t < headerOf s .terminals
   pub falling : Falling (s .carrying)
   pub tagged : 0 < length (s .carrying) → Full s
   pub filled : 0 < length (s .entries) → Full s
-  pub fewEntries : length (s .entries) ≤ 128
+  pub fewEntries : length (s .entries) ≤ productionsLimit
   pub entries : (e : Entry) → In e (s .entries) → EntryOk (headerOf s) (s .counts) (s .carrying) e
   -- all but the latest
   pub completes : (e : Entry) → In e (drop 1 (s .entries)) → T (complete s e)
@@ -222,7 +222,7 @@ no-header (some h) t = absurd t
 module _ (s : State) (v : Inv s) (o : ℕ) (b : List ℕ) where
   read-header : T (not (isSome (s .header))) → Faultless s header b → Inv (readField s o header b)
   read-header n p = record {
-    header = λ t. record { terminals = (leb→le 1 (byte b 0) (l₃ .0), leb→le (byte b 0) 63 (l₃ .1)); nonterminals = (leb→le 1 (byte b 1) (l₄ .0), leb→le (byte b 1) 48 (l₄ .1)); start = ltb→lt (byte b 2) (byte b 1) (p .named) };
+    header = λ t. record { terminals = (leb→le 1 (byte b 0) (l₃ .0), leb→le (byte b 0) terminalsLimit (l₃ .1)); nonterminals = (leb→le 1 (byte b 1) (l₄ .0), leb→le (byte b 1) nonterminalsLimit (l₄ .1)); start = ltb→lt (byte b 2) (byte b 1) (p .named) };
     fewCounts = omega (arith, none);
     attributes = v .attributes;
     startOk = λ l. absurd (omega (arith, none));
@@ -237,14 +237,14 @@ module _ (s : State) (v : Inv s) (o : ℕ) (b : List ℕ) where
     conditions = v .conditions;
   }
     where
-      l₁ : T (eqb (length b) 4 && within 1 (byte b 0) 63) × T (within 1 (byte b 1) 48)
-      l₁ = both (eqb (length b) 4 && within 1 (byte b 0) 63) (within 1 (byte b 1) 48) (p .limits)
+      l₁ : T (eqb (length b) 4 && within 1 (byte b 0) terminalsLimit) × T (within 1 (byte b 1) nonterminalsLimit)
+      l₁ = both (eqb (length b) 4 && within 1 (byte b 0) terminalsLimit) (within 1 (byte b 1) nonterminalsLimit) (p .limits)
 
-      l₃ : T (leb 1 (byte b 0)) × T (leb (byte b 0) 63)
-      l₃ = both (leb 1 (byte b 0)) (leb (byte b 0) 63) (both (eqb (length b) 4) (within 1 (byte b 0) 63) (l₁ .0) .1)
+      l₃ : T (leb 1 (byte b 0)) × T (leb (byte b 0) terminalsLimit)
+      l₃ = both (leb 1 (byte b 0)) (leb (byte b 0) terminalsLimit) (both (eqb (length b) 4) (within 1 (byte b 0) terminalsLimit) (l₁ .0) .1)
 
-      l₄ : T (leb 1 (byte b 1)) × T (leb (byte b 1) 48)
-      l₄ = both (leb 1 (byte b 1)) (leb (byte b 1) 48) (l₁ .1)
+      l₄ : T (leb 1 (byte b 1)) × T (leb (byte b 1) nonterminalsLimit)
+      l₄ = both (leb 1 (byte b 1)) (leb (byte b 1) nonterminalsLimit) (l₁ .1)
 
       none : length (s .counts) ≡ 0
       none = let z = no-header (s .header) n in omega (arith, v .fewCounts)
@@ -275,8 +275,8 @@ module _ (s : State) (v : Inv s) (o : ℕ) (b : List ℕ) where
       new : Counts
       new = record { inherited = byte b 0; synthesized = byte b 1 }
 
-      few : (c : Counts) → (c ≡ new) ⊎ In c (s .counts) → c .inherited + c .synthesized ≤ 8
-      few c (inl e) = rw e (leb→le (byte b 0 + byte b 1) 8 (both (eqb (length b) 2) (leb (byte b 0 + byte b 1) 8) (p .limits) .1))
+      few : (c : Counts) → (c ≡ new) ⊎ In c (s .counts) → c .inherited + c .synthesized ≤ attributesLimit
+      few c (inl e) = rw e (leb→le (byte b 0 + byte b 1) attributesLimit (both (eqb (length b) 2) (leb (byte b 0 + byte b 1) attributesLimit) (p .limits) .1))
       few c (inr i) = v .attributes c i
 
       right : length (s .counts) ≡ headerOf s .start → (byte b 0 ≡ 0) × (1 ≤ headerOf s .result) × (headerOf s .result ≤ byte b 1)
@@ -307,7 +307,7 @@ module _ (s : State) (v : Inv s) (o : ℕ) (b : List ℕ) where
     falling = v .falling;
     tagged = v .tagged;
     filled = λ m. f;
-    fewEntries = ltb→lt (length (s .entries)) 128 (l₁ .1);
+    fewEntries = ltb→lt (length (s .entries)) productionsLimit (l₁ .1);
     entries = λ e i. entry e i;
     completes = λ e i. all-complete s v t e i;
     rules = (omega (arith, v .rules .0), v .rules .1);
@@ -317,14 +317,14 @@ module _ (s : State) (v : Inv s) (o : ℕ) (b : List ℕ) where
       new : Entry
       new = record { offset = o; left = byte b 0; right = map symbolOf (drop 2 b); rules = []; conditions = [] }
 
-      l₁ : T (leb 2 (length b) && leb (byte b 1) 12 && eqb (length b) (2 + byte b 1)) × T (ltb (length (s .entries)) 128)
-      l₁ = both (leb 2 (length b) && leb (byte b 1) 12 && eqb (length b) (2 + byte b 1)) (ltb (length (s .entries)) 128) (p .limits)
+      l₁ : T (leb 2 (length b) && leb (byte b 1) symbolsLimit && eqb (length b) (2 + byte b 1)) × T (ltb (length (s .entries)) productionsLimit)
+      l₁ = both (leb 2 (length b) && leb (byte b 1) symbolsLimit && eqb (length b) (2 + byte b 1)) (ltb (length (s .entries)) productionsLimit) (p .limits)
 
-      l₂ : T (leb 2 (length b) && leb (byte b 1) 12) × T (eqb (length b) (2 + byte b 1))
-      l₂ = both (leb 2 (length b) && leb (byte b 1) 12) (eqb (length b) (2 + byte b 1)) (l₁ .0)
+      l₂ : T (leb 2 (length b) && leb (byte b 1) symbolsLimit) × T (eqb (length b) (2 + byte b 1))
+      l₂ = both (leb 2 (length b) && leb (byte b 1) symbolsLimit) (eqb (length b) (2 + byte b 1)) (l₁ .0)
 
-      l₃ : T (leb 2 (length b)) × T (leb (byte b 1) 12)
-      l₃ = both (leb 2 (length b)) (leb (byte b 1) 12) (l₂ .0)
+      l₃ : T (leb 2 (length b)) × T (leb (byte b 1) symbolsLimit)
+      l₃ = both (leb 2 (length b)) (leb (byte b 1) symbolsLimit) (l₂ .0)
 
       names : T (ltb (byte b 0) (headerOf s .nonterminals)) × T (all (λ n. symbolKnown s (symbolOf n)) (drop 2 b))
       names = both (ltb (byte b 0) (headerOf s .nonterminals)) (all (λ n. symbolKnown s (symbolOf n)) (drop 2 b)) (p .named)
@@ -336,7 +336,7 @@ module _ (s : State) (v : Inv s) (o : ℕ) (b : List ℕ) where
       ok : EntryOk (headerOf s) (s .counts) (s .carrying) new
       ok = record {
         left = ltb→lt (byte b 0) (headerOf s .nonterminals) (names .0);
-        short = omega (arith, length-map (drop 2 b) symbolOf, length-drop 2 b, eqb→eq (length b) (2 + byte b 1) (l₂ .1), leb→le (byte b 1) 12 (l₃ .1));
+        short = omega (arith, length-map (drop 2 b) symbolOf, length-drop 2 b, eqb→eq (length b) (2 + byte b 1) (l₂ .1), leb→le (byte b 1) symbolsLimit (l₃ .1));
         symbols = λ x i. let w = map-in symbolOf (drop 2 b) x i in rw (w .2) (symbol (symbolOf (w .0)) (all-in (λ n. symbolKnown s (symbolOf n)) (drop 2 b) (names .1) (w .0) (w .1)));
         targets = λ r i. absurd i;
         distinct = tt;

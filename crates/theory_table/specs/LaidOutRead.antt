@@ -10,8 +10,9 @@ use lib.ListN.{getD, length, length-map, length-append, length-reverse}
 use lib.Seq.{getD-at}
 use lib.Signed.{leZ}
 use lib.IntN.{pos}
-use lib.Dec.{T, eqb, ltb, leb, eqb→eq, eqb-refl, le→leb, lt→ltb}
-use Rattle.meaning.specs.Limits.{rulesLimit, conditionsLimit, tableLimit}
+use lib.Dec.{T, eqb, ltb, leb, eqb→eq, le→leb, lt→ltb}
+use mir.Facts.{yes-eqb}
+use Rattle.meaning.specs.Limits.{rulesLimit, conditionsLimit, tableLimit, attributesLimit, nonterminalsLimit, productionsLimit, symbolsLimit, terminalsLimit, divisorLimit}
 use Rattle.meaning.specs.Base.{In, all, total}
 use Rattle.meaning.specs.Grammar.{Symbol, terminal, nonterminal, Occurrence, Function, Rule, Condition, range, atmost, Production, Counts, noCounts, Grammar, nonterminalCount}
 use Rattle.meaning.specs.Rules.{Operands, Operand, Distinct, Rising, Proper, Known, WellFormed, WellFormedProduction}
@@ -25,9 +26,6 @@ use Rattle.theory_table.specs.Reading as Reading
 use Rattle.theory_table.specs.Occurrences.{input-over, output-over, operand-over, at-output, operands-map, reads-map, operands-inputs, operands-leftward, reads-inputs, once-set, every-complete}
 use Rattle.theory_table.specs.Invariant.{mk}
 use Rattle.theory_table.specs.Numbers.{two-bytes, known-back, rule-read, condition-read}
-
-same-eqb : (m n : ℕ) → m ≡ n → T (eqb m n)
-same-eqb m n e = rw e (eqb-refl n)
 
 within-is : (low n high : ℕ) → low ≤ n → n ≤ high → T (within low n high)
 within-is low n high l h = and (leb low n) (leb n high) (le→leb low n l) (le→leb n high h)
@@ -82,7 +80,7 @@ module _ (g : Grammar) (wf : WellFormed g) where
         let ops : Operands (Operand (grammarOf s) (productionOf e) k) f = operands-map (operand-over g (grammarOf s) p (productionOf e) (sym back) (sym carried-back) (sym el) (sym er) k) f (w .operands r i) in
         let ins = operands-inputs s e k f ops in
         let fits : Bool = ltb 8 (byte b 2) || eqb (length b) (ruleLength (byte b 2)) in
-        let divides : Bool = not (eqb (byte b 2) 8) || (leZ (pos 1) (constantAt b 5) && leZ (constantAt b 5) (pos 1000000)) in
+        let divides : Bool = not (eqb (byte b 2) 8) || (leZ (pos 1) (constantAt b 5) && leZ (constantAt b 5) (pos divisorLimit)) in
         record {
           limits = and (leb 3 (length b) && ltb rn rulesLimit && fits) divides (and (leb 3 (length b) && ltb rn rulesLimit) fits (and (leb 3 (length b)) (ltb rn rulesLimit) (q .long) (lt→ltb rn rulesLimit room)) (q .right)) (q .divides);
           named = subst (λ z. T (leb (byte b 2) 8 && occurrenceKnown s e (z .target) && all (occurrenceKnown s e) (operands (z .function)))) (sym (q .same))
@@ -121,16 +119,16 @@ module _ (g : Grammar) (wf : WellFormed g) where
   symbols-back [] h = refl
   symbols-back (x ∷ xs) h = ap₂ _∷_ (known-back g wf x (h x (inl refl))) (symbols-back xs (λ y i. h y (inr i)))
 
-  production-passed : (p : Production) → WellFormedProduction g p → (co : List ℕ) (es : List Entry) (rn cn : ℕ) → length es < 128 → Faultless (st co es rn cn) production (productionBytes p)
+  production-passed : (p : Production) → WellFormedProduction g p → (co : List ℕ) (es : List Entry) (rn cn : ℕ) → length es < productionsLimit → Faultless (st co es rn cn) production (productionBytes p)
   production-passed p w co es rn cn room =
       let b : List ℕ = productionBytes p in
       let long = length-map (p .right) symbolByte in
       let bytes : List ℕ = map symbolByte (p .right) in
       let known-byte : ℕ → Bool = λ n. symbolKnown (st co es rn cn) (symbolOf n) in
-      let short = and (leb 2 (length b)) (leb (byte b 1) 12) (le→leb 2 (length b) (omega arith)) (le→leb (byte b 1) 12 (w .short)) in
-      let exact = and (leb 2 (length b) && leb (byte b 1) 12) (eqb (length b) (2 + byte b 1)) short (same-eqb (length b) (2 + byte b 1) (omega arith)) in
+      let short = and (leb 2 (length b)) (leb (byte b 1) symbolsLimit) (le→leb 2 (length b) (omega arith)) (le→leb (byte b 1) symbolsLimit (w .short)) in
+      let exact = and (leb 2 (length b) && leb (byte b 1) symbolsLimit) (eqb (length b) (2 + byte b 1)) short (yes-eqb {a = length b} {b = 2 + byte b 1} (omega arith)) in
       record {
-        limits = and (leb 2 (length b) && leb (byte b 1) 12 && eqb (length b) (2 + byte b 1)) (ltb (length es) 128) exact (lt→ltb (length es) 128 room);
+        limits = and (leb 2 (length b) && leb (byte b 1) symbolsLimit && eqb (length b) (2 + byte b 1)) (ltb (length es) productionsLimit) exact (lt→ltb (length es) productionsLimit room);
         named = and (ltb (p .left) (nonterminalCount g)) (all known-byte bytes) (lt→ltb (p .left) (nonterminalCount g) (w .left)) (in-all known-byte bytes (λ n i. symbol n (map-in symbolByte (p .right) n i)));
         start = tt;
         directions = tt;
@@ -194,7 +192,7 @@ module _ (g : Grammar) (wf : WellFormed g) where
   productions-read (Layout.production p {ps} {body} {rest} d ds) co es rn cn o q t a b =
       let i : In p (g .productions) = subst (In p) q (in-right p (map productionOf (reverse es)) (p ∷ ps) (inl refl)) in
       let w = wf .each p i in
-      let room : length es < 128 = omega (arith, ap length q, length-append (map productionOf (reverse es)) (p ∷ ps), length-map (reverse es) productionOf, length-reverse es, wf .productions .1) in
+      let room : length es < productionsLimit = omega (arith, ap length q, length-append (map productionOf (reverse es)) (p ∷ ps), length-map (reverse es) productionOf, length-reverse es, wf .productions .1) in
       let new : Entry = record { offset = o; left = p .left; right = map symbolOf (map symbolByte (p .right)); rules = []; conditions = [] } in
       let rn₁ = rn + length (p .rules) in
       let cn₁ = cn + length (p .conditions) in
@@ -206,7 +204,7 @@ module _ (g : Grammar) (wf : WellFormed g) where
 
   counts-passed : (co : List ℕ) (done : List Counts) (c : Counts) (todo : List Counts) → reverse done ++ (c ∷ todo) ≡ g .counts → Faultless (mk (some headerIs) done co [] [] 0 0) counts (countsBytes c)
   counts-passed co done c todo q = record {
-    limits = le→leb (c .inherited + c .synthesized) 8 (wf .attributes c (subst (In c) q (in-right c (reverse done) (c ∷ todo) (inl refl))));
+    limits = le→leb (c .inherited + c .synthesized) attributesLimit (wf .attributes c (subst (In c) q (in-right c (reverse done) (c ∷ todo) (inl refl))));
     named = tt;
     start = go (eqb (length done) (g .start)) refl;
     directions = tt;
@@ -222,7 +220,7 @@ module _ (g : Grammar) (wf : WellFormed g) where
       go false e = tt
       go true e =
           let z = this (eqb→eq (length done) (g .start) (rw e tt)) in
-          and (eqb (c .inherited) 0) (within 1 (g .result) (c .synthesized)) (same-eqb (c .inherited) 0 (sym (ap (λ x. x .inherited) z) ∙ wf .startAlone)) (within-is 1 (g .result) (c .synthesized) (wf .result .0) (subst (λ x. g .result ≤ x .synthesized) z (wf .result .1)))
+          and (eqb (c .inherited) 0) (within 1 (g .result) (c .synthesized)) (yes-eqb (sym (ap (λ x. x .inherited) z) ∙ wf .startAlone)) (within-is 1 (g .result) (c .synthesized) (wf .result .0) (subst (λ x. g .result ≤ x .synthesized) z (wf .result .1)))
 
   -- ---- the carriers
 
@@ -267,7 +265,7 @@ module _ (g : Grammar) (wf : WellFormed g) where
 
   header-passed : Faultless nothingRead header (headerBytes g)
   header-passed = record {
-    limits = and (within 1 (g .terminals) 63) (within 1 (nonterminalCount g) 48) (within-is 1 (g .terminals) 63 (wf .terminals .0) (wf .terminals .1)) (within-is 1 (nonterminalCount g) 48 (wf .nonterminals .0) (wf .nonterminals .1));
+    limits = and (within 1 (g .terminals) terminalsLimit) (within 1 (nonterminalCount g) nonterminalsLimit) (within-is 1 (g .terminals) terminalsLimit (wf .terminals .0) (wf .terminals .1)) (within-is 1 (nonterminalCount g) nonterminalsLimit (wf .nonterminals .0) (wf .nonterminals .1));
     named = lt→ltb (g .start) (nonterminalCount g) (wf .start);
     start = tt;
     directions = tt;

@@ -11,10 +11,11 @@ use lib.Signed.{leZ}
 use borrow.Author.Tests.{lt-ltb, le-ltb}
 use lib.Dec.{T, eqb, ltb, leb, leb→le, le→leb, ltb→lt, lt→ltb, nltb→le}
 use Rattle.meaning.specs.Base.{countFrom}
-use Rattle.meaning.specs.Grammar.{Symbol, terminal, nonterminal, Occurrence, Function, const, functionsOf, Binary, binaryNumber, copy, binary, sum, diff, prod, maxi, mini, addc, quot, Rule, Condition, range, atmost, Grammar}
-use Rattle.meaning.specs.Rules.{InFourBytes, Constant, Proper, Known, WellFormed}
+use Rattle.meaning.specs.Grammar.{Symbol, terminal, nonterminal, Occurrence, Function, const, functionsOf, Binary, binaryNumber, copy, binary, sum, diff, prod, maxi, mini, addc, quot, Rule, Condition, range, atmost, Grammar, nonterminalBase}
 use Rattle.meaning.specs.Layout.{unsigned, fourBytes, constantBytes, occurrenceBytes, symbolByte, functionBytes, ruleBytes, conditionBytes, Bytes}
 use mathlib.Core.Option.{Option, none, some}
+use Rattle.meaning.specs.Rules.{InFourBytes, Constant, Proper, Known, WellFormed}
+use Rattle.meaning.specs.Limits.{divisorLimit}
 use Rattle.meaning.specs.Table.{byte, signed, constantAt, occurrenceAt, symbolOf, ruleOf, conditionOf, ruleLength, conditionLength}
 use Rattle.theory_base.specs.Members.{and, getD-in}
 
@@ -101,27 +102,27 @@ constant-bytes b i h =
 -- ---- symbols
 
 -- by its byte
-symbol-by : (b : Bool) (n : ℕ) → ltb n 128 ≡ b → symbolOf n ≡ elim b [ true ↦ terminal n | false ↦ nonterminal (n - 128) ]
+symbol-by : (b : Bool) (n : ℕ) → ltb n nonterminalBase ≡ b → symbolOf n ≡ elim b [ true ↦ terminal n | false ↦ nonterminal (n - nonterminalBase) ]
 symbol-by b n e = rw (sym e)
 
-pub symbol-terminal : (n : ℕ) → n < 128 → symbolOf n ≡ terminal n
-symbol-terminal n h = symbol-by true n (lt-ltb n 128 h)
+pub symbol-terminal : (n : ℕ) → n < nonterminalBase → symbolOf n ≡ terminal n
+symbol-terminal n h = symbol-by true n (lt-ltb n nonterminalBase h)
 
-pub symbol-nonterminal : (n : ℕ) → 128 ≤ n → symbolOf n ≡ nonterminal (n - 128)
-symbol-nonterminal n h = symbol-by false n (le-ltb n 128 h)
+pub symbol-nonterminal : (n : ℕ) → nonterminalBase ≤ n → symbolOf n ≡ nonterminal (n - nonterminalBase)
+symbol-nonterminal n h = symbol-by false n (le-ltb n nonterminalBase h)
 
-pub symbol-back : (x : Symbol) → ((t : ℕ) → x ≡ terminal t → t < 128) → symbolOf (symbolByte x) ≡ x
+pub symbol-back : (x : Symbol) → ((t : ℕ) → x ≡ terminal t → t < nonterminalBase) → symbolOf (symbolByte x) ≡ x
 symbol-back (terminal t) h = symbol-terminal t (h t refl)
-symbol-back (nonterminal n) h = symbol-nonterminal (128 + n) (omega arith) ∙ ap nonterminal {x = 128 + n - 128} {y = n} (omega arith)
+symbol-back (nonterminal n) h = symbol-nonterminal (nonterminalBase + n) (omega arith) ∙ ap nonterminal {x = nonterminalBase + n - nonterminalBase} {y = n} (omega arith)
 
 -- a symbol of a well-formed grammar
 pub known-back : (g : Grammar) → WellFormed g → (x : Symbol) → Known g x → symbolOf (symbolByte x) ≡ x
 known-back g w x k = symbol-back x (λ t e. let l : t < g .terminals = subst (Known g) e k in omega (arith, w .terminals .1))
 
 pub byte-back : (n : ℕ) → symbolByte (symbolOf n) ≡ n
-byte-back n = go (ltb n 128) (λ t. nltb→le n 128 t)
+byte-back n = go (ltb n nonterminalBase) (λ t. nltb→le n nonterminalBase t)
   where
-    go : (b : Bool) → (T (not b) → 128 ≤ n) → symbolByte (elim b [ true ↦ terminal n | false ↦ nonterminal (n - 128) ]) ≡ n
+    go : (b : Bool) → (T (not b) → nonterminalBase ≤ n) → symbolByte (elim b [ true ↦ terminal n | false ↦ nonterminal (n - nonterminalBase) ]) ≡ n
     go true k = refl
     go false k = let l = k tt in omega arith
 
@@ -168,13 +169,13 @@ pub record RuleRead (r : Rule Occurrence) : Type 0 where
   pub long : T (leb 3 (length (ruleBytes r)))
   pub named : T (leb (byte (ruleBytes r) 2) 8)
   pub right : T (ltb 8 (byte (ruleBytes r) 2) || eqb (length (ruleBytes r)) (ruleLength (byte (ruleBytes r) 2)))
-  pub divides : T (not (eqb (byte (ruleBytes r) 2) 8) || (leZ (pos 1) (constantAt (ruleBytes r) 5) && leZ (constantAt (ruleBytes r) 5) (pos 1000000)))
+  pub divides : T (not (eqb (byte (ruleBytes r) 2) 8) || (leZ (pos 1) (constantAt (ruleBytes r) 5) && leZ (constantAt (ruleBytes r) 5) (pos divisorLimit)))
 
 abbrev ruleWith : Occurrence → Function Occurrence → Rule Occurrence
 ruleWith o f = record { target = o; function = f }
 
-pub divisor-in : (c : ℤ) → T (leZ (pos 1) c) × T (leZ c (pos 1000000)) → InFourBytes c
-divisor-in (pos n) h = (tt, le→leb n 2147483647 (omega (arith, leb→le n 1000000 (h .1))))
+pub divisor-in : (c : ℤ) → T (leZ (pos 1) c) × T (leZ c (pos divisorLimit)) → InFourBytes c
+divisor-in (pos n) h = (tt, le→leb n 2147483647 (omega (arith, leb→le n divisorLimit (h .1))))
 divisor-in (negsuc n) h = absurd (h .0)
 
 -- behind the functions of two operands come those with a constant
@@ -196,7 +197,7 @@ rule-read-of o (binary mini a b) h = record { same = refl; long = tt; named = tt
 rule-read-of o (addc a c) h = record { same = ap (λ z. ruleWith o (addc a z)) (constant-back c h); long = tt; named = tt; right = tt; divides = tt }
 rule-read-of o (quot a c) h =
     let e = constant-back c (divisor-in c h) in
-    record { same = ap (λ z. ruleWith o (quot a z)) e; long = tt; named = tt; right = tt; divides = subst (λ z. T (leZ (pos 1) z && leZ z (pos 1000000))) (sym e) (and (leZ (pos 1) c) (leZ c (pos 1000000)) (h .0) (h .1)) }
+    record { same = ap (λ z. ruleWith o (quot a z)) e; long = tt; named = tt; right = tt; divides = subst (λ z. T (leZ (pos 1) z && leZ z (pos divisorLimit))) (sym e) (and (leZ (pos 1) c) (leZ c (pos divisorLimit)) (h .0) (h .1)) }
 
 pub rule-read : (r : Rule Occurrence) → Constant (r .function) → RuleRead r
 rule-read r h = rule-read-of (r .target) (r .function) h

@@ -11,7 +11,7 @@ use Rattle.meaning.specs.Base.{all, countFrom, In}
 use Rattle.meaning.specs.Grammar.{Symbol, terminal, nonterminal, Occurrence, Function, const, copy, binary, addc, quot, Rule, Condition, range, atmost, Production, Grammar, Counts, countsIn, inh, att, symbolAt}
 use Rattle.meaning.specs.Rules.{Operands, Reads, Input, InputAt, OutputAt, Operand}
 use Rattle.meaning.specs.Table.{State, Entry, countsAt, entrySymbol, occurrenceKnown, isInput, isInherited, within, operands, reads, sameOccurrence, hasRule, occurrencesAt, complete, productionOf, grammarOf}
-use Rattle.theory_base.specs.Members.{both, and, or-cases, or-right, not-not, all-in, in-all, any-in, in-any, in-map, map-in, in-from, from-in}
+use Rattle.theory_base.specs.Members.{both, and, or-cases, or-right, not-not, all-in, in-all, any-in, in-any, in-map, map-in, in-from, from-in, twice-not}
 
 abbrev occ : ℕ → ℕ → Occurrence
 occ k a = record { position = k; attribute = a }
@@ -112,11 +112,7 @@ module _ (s : State) (e : Entry) where
 
   pub at-output : (k a : ℕ) → OutputAt (grammarOf s) (productionOf e) k a → T (occurrenceKnown s e (occ k a)) × T (not (isInput s e (occ k a)))
   at-output zero a h = (facts-known zero a (omega arith) (omega (arith, h .0)) (h .1), no-inherited zero a (h .0))
-  at-output (suc k) a h = (facts-known (suc k) a (h .0) (h .1) (omega (arith, h .2)), subst (λ b. T (not (rightTest k a b))) (sym (eqb·suc-zero k)) (twice (isInherited s e (occ (suc k) a)) (yes-inherited (suc k) a (h .2))))
-    where
-      twice : (b : Bool) → T b → T (not (not b))
-      twice true t = tt
-      twice false t = absurd t
+  at-output (suc k) a h = (facts-known (suc k) a (h .0) (h .1) (omega (arith, h .2)), subst (λ b. T (not (rightTest k a b))) (sym (eqb·suc-zero k)) (twice-not (isInherited s e (occ (suc k) a)) (yes-inherited (suc k) a (h .2))))
 
 -- ---- operands and what a condition reads, as lists
 

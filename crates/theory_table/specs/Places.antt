@@ -9,6 +9,7 @@ use mathlib.Core.List.{List, [], _∷_, _++_, map, reverse, reverse-cons}
 use lib.ListN.{getD, length, drop, length-append, length-map, length-drop, length-reverse, List·getD-append}
 use lib.Seq.{getD-at, getD-append-add, getD-drop}
 use lib.Dec.{T, eqb, leb, eqb→eq, T-not}
+use Rattle.meaning.specs.Limits.{attributesLimit, nonterminalsLimit, terminalsLimit}
 use Rattle.meaning.specs.Base.{In}
 use Rattle.meaning.specs.Grammar.{Symbol, terminal, Counts, noCounts, wholeProduction, productionAt, whole}
 use Rattle.meaning.specs.Table.{State, Header, Entry, noEntry, Kind, header, counts, production, rule, condition, carrier, isSome, headerOf, byte, within, symbolOf, readField, onCurrent, withRule, withCondition, ruleOf, conditionOf, wellFormed, readTable, nothingRead, productionOf, grammarOf}
@@ -109,7 +110,7 @@ falling-later (e ∷ es) o o′ l f = (omega (arith, f .0), f .1)
 module _ (all : List ℕ) (s : State) (o high low : ℕ) (b rest : List ℕ) (v : Placed all s o) where
   place-header : From all o (1 ∷ high ∷ low ∷ b ++ rest) → T (not (isSome (s .header))) → Faultless s header b → Placed all (readField s o header b) (o + 3 + length b)
   place-header f n p =
-      let l : length b ≡ 4 = eqb→eq (length b) 4 (both (eqb (length b) 4) (within 1 (byte b 0) 63) (both (eqb (length b) 4 && within 1 (byte b 0) 63) (within 1 (byte b 1) 48) (p .limits) .0) .0) in
+      let l : length b ≡ 4 = eqb→eq (length b) 4 (both (eqb (length b) 4) (within 1 (byte b 0) terminalsLimit) (both (eqb (length b) 4 && within 1 (byte b 0) terminalsLimit) (within 1 (byte b 1) nonterminalsLimit) (p .limits) .0) .0) in
       let z = v .early n in
       let at : (i : ℕ) → i < 4 → byte all (3 + i) ≡ byte b i = λ i m. ap (byte all) (omega (arith, z .0)) ∙ body-at all o 1 high low b rest f i (omega arith) in
       record {
@@ -128,7 +129,7 @@ module _ (all : List ℕ) (s : State) (o high low : ℕ) (b rest : List ℕ) (v 
   place-counts : From all o (2 ∷ high ∷ low ∷ b ++ rest) → T (isSome (s .header)) → length (s .entries) ≡ 0 → length (s .carrying) ≡ 0 → Faultless s counts b → Placed all (readField s o counts b) (o + 3 + length b)
   place-counts f t none bare p =
       let c : Counts = record { inherited = byte b 0; synthesized = byte b 1 } in
-      let l : length b ≡ 2 = eqb→eq (length b) 2 (both (eqb (length b) 2) (leb (byte b 0 + byte b 1) 8) (p .limits) .0) in
+      let l : length b ≡ 2 = eqb→eq (length b) 2 (both (eqb (length b) 2) (leb (byte b 0 + byte b 1) attributesLimit) (p .limits) .0) in
       let here : o ≡ 7 + 5 * length (s .counts) = omega (arith, v .next t none, bare) in
       let new : CountsAt all o c = record { tag = tag-at all o 2 high low b rest f; inherited = body-at all o 2 high low b rest f 0 (omega arith); synthesized = body-at all o 2 high low b rest f 1 (omega arith) } in
       record {

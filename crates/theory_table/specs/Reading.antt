@@ -11,7 +11,7 @@ use lib.Dec.{T, eqb, ltb, leb, eqb→eq, leb→le, le→leb, ltb→lt, lt→ltb,
 use Rattle.meaning.specs.Limits.{tableLimit}
 use Rattle.meaning.specs.Table.{State, Kind, header, counts, production, rule, condition, carrier, Stage, atHeader, atCounts, atFirst, atAny, stage, tagStands, kindOf, isSome, headerOf, byte, limitsHold, known, startRight}
 use Rattle.meaning.specs.Table.{directionsRight, setOnce, leftToRight, boundsRight, lowestOf, judgeField, current, lastComplete, readField, Read, wellFormed, malformed, atEnd, readAll, readTable, nothingRead}
-use Rattle.theory_base.specs.Members.{both, and, or-cases, not-not}
+use Rattle.theory_base.specs.Members.{both, and, or-cases, not-not, twice-not}
 
 -- ---- a field that no number judges
 
@@ -188,12 +188,8 @@ stands s counts n = (go (isSome (s .header)) (n .0) (ltb (length (s .counts)) (h
     go false v b w = absurd v
     go true v false w = absurd w
     go true v true w = tt
-stands s production n = (go (isSome (s .header)) (n .0 .0) (ltb (length (s .counts)) (headerOf s .nonterminals)) (λ t. let h = ltb→lt (length (s .counts)) (headerOf s .nonterminals) t in absurd (omega (arith, n .0 .1))) (ltb 0 (length (s .entries))), whole (lastComplete s) (n .1))
+stands s production n = (go (isSome (s .header)) (n .0 .0) (ltb (length (s .counts)) (headerOf s .nonterminals)) (λ t. let h = ltb→lt (length (s .counts)) (headerOf s .nonterminals) t in absurd (omega (arith, n .0 .1))) (ltb 0 (length (s .entries))), twice-not (lastComplete s) (n .1))
   where
-    whole : (b : Bool) → T b → T (not (not b))
-    whole true t = tt
-    whole false t = absurd t
-
     go : (a : Bool) → T a → (b : Bool) → (T b → ⊥) → (c : Bool) → T (tagStands (stageBy a b c) 3)
     go false v b w c = absurd v
     go true v true w c = absurd (w tt)

@@ -11,7 +11,7 @@ use lib.Dec.{eqb, leb, ltb}
 use lib.IntN.{ℤ, pos, _+ℤ_, _-ℤ_}
 use Rattle.meaning.specs.Base.{all, keep}
 use Rattle.meaning.specs.Value.{inRange, mark}
-use Rattle.meaning_window.specs.Window.{total, largest, totals, empty, scanOf, turned, order, zeros, slotsOf, after, valueAt, leads, leadersOf, leaderCells, cells}
+use Rattle.meaning_window.specs.Window.{total, largest, totals, empty, scanOf, turned, order, zeros, slotsOf, after, valueAt, leads, leadersOf, leaderCells, cells, windowLimit}
 use Rattle.meaning_window.specs.Window.{formOf, formLength, small, numberAt, sizeIn, heldIn, nextIn, totalIn, slotsIn, valuesIn, sameNumber, sizeFits, placeFits, sameCells, wellKept, written, valuesWith}
 use Rattle.meaning_window.specs.WindowStatements.{answerIn}
 use Rattle.theory_window.specs.Parts.{countIn, leaderAreaIn, isZero, eqNumbers, valuesOf, topAt, answerOf, valuesFit, restZero, keptAs, keptParts}
@@ -43,7 +43,7 @@ first-zeros n h x v e l z = by (ltb h n) refl
 -- the tests that it passed
 pub record TestsPassed (b : List ℤ) (n h k c : ℕ) (s area : List ℤ) : Type 0 where
   pub one : 1 ≤ n
-  pub most : n ≤ 64
+  pub most : n ≤ windowLimit
   pub long : formLength n ≤ length b
   pub place : placeFits n h k ≡ true
   pub ranged : all inRange s ≡ true
@@ -69,11 +69,11 @@ module _ (b : List ℤ) (n h k c : ℕ) (s area : List ℤ) (e : keptAs (length 
   abbrev rest1 : Bool
   rest1 = placeFits n h k && rest2
 
-  sizes : (leb n 64 && leb (formLength n) (length b)) ≡ true
-  sizes = and-right (leb 1 n) (leb n 64 && leb (formLength n) (length b)) (and-left (sizeFits n (length b)) rest1 e)
+  sizes : (leb n windowLimit && leb (formLength n) (length b)) ≡ true
+  sizes = and-right (leb 1 n) (leb n windowLimit && leb (formLength n) (length b)) (and-left (sizeFits n (length b)) rest1 e)
 
   passed-long : formLength n ≤ length b
-  passed-long = leb-true (formLength n) (length b) (and-right (leb n 64) (leb (formLength n) (length b)) sizes)
+  passed-long = leb-true (formLength n) (length b) (and-right (leb n windowLimit) (leb (formLength n) (length b)) sizes)
 
   passed-by : length s ≡ n → TestsPassed b n h k c s area
   passed-by long =
@@ -86,8 +86,8 @@ module _ (b : List ℤ) (n h k c : ℕ) (s area : List ℤ) (e : keptAs (length 
       let p : placeFits n h k ≡ true = and-left (placeFits n h k) rest2 q1 in
       let u : all isZero (drop h s) ≡ true = and-left (all isZero (drop h s)) (all isZero (drop c area)) z in
       record {
-        one = leb-true 1 n (and-left (leb 1 n) (leb n 64 && leb (formLength n) (length b)) (and-left (sizeFits n (length b)) rest1 e));
-        most = leb-true n 64 (and-left (leb n 64) (leb (formLength n) (length b)) sizes);
+        one = leb-true 1 n (and-left (leb 1 n) (leb n windowLimit && leb (formLength n) (length b)) (and-left (sizeFits n (length b)) rest1 e));
+        most = leb-true n windowLimit (and-left (leb n windowLimit) (leb (formLength n) (length b)) sizes);
         long = passed-long;
         place = p;
         ranged = slots-ranged n h k p s long u (and-left (all inRange vs) (eqNumbers claimed (leadersOf n h k s) && sameNumber (totalIn b) (total vs)) f);
@@ -345,11 +345,11 @@ well-parts b e =
     let q2 : rest2 ≡ true = and-right (placeFits n (heldIn b) (nextIn b)) rest2 q1 in
     let p0 : sizeFits n (length b) ≡ true = and-left (sizeFits n (length b)) rest1 e in
     let p1 : placeFits n (heldIn b) (nextIn b) ≡ true = and-left (placeFits n (heldIn b) (nextIn b)) rest2 q1 in
-    let m1 : (leb n 64 && leb (formLength n) (length b)) ≡ true = and-right (leb 1 n) (leb n 64 && leb (formLength n) (length b)) p0 in
-    let long : formLength n ≤ length b = leb-true (formLength n) (length b) (and-right (leb n 64) (leb (formLength n) (length b)) m1) in
+    let m1 : (leb n windowLimit && leb (formLength n) (length b)) ≡ true = and-right (leb 1 n) (leb n windowLimit && leb (formLength n) (length b)) p0 in
+    let long : formLength n ≤ length b = leb-true (formLength n) (length b) (and-right (leb n windowLimit) (leb (formLength n) (length b)) m1) in
     let valid : Valid (sizeIn b) (nextIn b) (valuesIn b) = record {
-      one = leb-true 1 n (and-left (leb 1 n) (leb n 64 && leb (formLength n) (length b)) p0);
-      most = leb-true n 64 (and-left (leb n 64) (leb (formLength n) (length b)) m1);
+      one = leb-true 1 n (and-left (leb 1 n) (leb n windowLimit && leb (formLength n) (length b)) p0);
+      most = leb-true n windowLimit (and-left (leb n windowLimit) (leb (formLength n) (length b)) m1);
       place = ap (λ m. placeFits n m (nextIn b)) (values-long b long (place-held n (heldIn b) (nextIn b) p1)) ∙ p1;
       ranged = and-left (all inRange vs) same q2;
     } in

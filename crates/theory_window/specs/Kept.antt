@@ -11,7 +11,7 @@ use lib.Dec.{eqb, leb, ltb}
 use lib.IntN.{ℤ, pos, negsuc}
 use Rattle.meaning.specs.Base.{all}
 use Rattle.meaning.specs.Value.{inRange}
-use Rattle.meaning_window.specs.Window.{total, turned, order, zeros, slotsOf, after, valueAt, leadersOf, leaderCells, cells, formOf, formLength, small, sizeIn, heldIn, nextIn, slotsIn, valuesIn, sameNumber, placeFits, sizeFits, written, sameCells, wellKept}
+use Rattle.meaning_window.specs.Window.{total, turned, order, zeros, slotsOf, after, valueAt, leadersOf, leaderCells, cells, formOf, formLength, small, sizeIn, heldIn, nextIn, slotsIn, valuesIn, sameNumber, placeFits, sizeFits, written, sameCells, wellKept, windowLimit, pastWindow}
 use Rattle.theory_window.specs.Parts.{countIn, valuesOf, leaderAreaIn, isZero, eqNumbers, valuesFit, keptAs, keptParts}
 use Rattle.theory_window.specs.Lists.{and-left, and-right, both, all-append, all-turned}
 use Rattle.theory_window.specs.Ring.{grown, length-grown, order-in, length-order, length-slots, slots-of-values, values-of-slots, zeros-of-slots}
@@ -19,13 +19,13 @@ use Rattle.theory_window.specs.Leaders.{length-leads, all-leads}
 
 -- ---- numbers, zeros and lists by their tests
 
-pub small-pos : (m : ℕ) → m ≤ 64 → small (pos m) ≡ m
-small-pos m l = rw (le-leb m 64 l) refl
+pub small-pos : (m : ℕ) → m ≤ windowLimit → small (pos m) ≡ m
+small-pos m l = rw (le-leb m windowLimit l) refl
 
-pub small-back : (z : ℤ) → small z ≤ 64 → z ≡ pos (small z)
-small-back (pos m) l = by (leb m 64) l
+pub small-back : (z : ℤ) → small z ≤ windowLimit → z ≡ pos (small z)
+small-back (pos m) l = by (leb m windowLimit) l
   where
-    by : (b : Bool) → cond b m 65 ≤ 64 → pos m ≡ pos (cond b m 65)
+    by : (b : Bool) → cond b m pastWindow ≤ windowLimit → pos m ≡ pos (cond b m pastWindow)
     by true l = refl
     by false l = absurd (omega arith)
 small-back (negsuc m) l = absurd (omega arith)
@@ -72,7 +72,7 @@ numbers-refl [] = refl
 numbers-refl (i ∷ is) = both (eq-eqb i i refl) (numbers-refl is)
 
 -- cells that read as slots
-pub small-all : (n : ℕ) (xs : List ℤ) (ls : List ℕ) → n ≤ 64 → map small xs ≡ ls → all (λ j. ltb j n) ls ≡ true → xs ≡ map pos ls
+pub small-all : (n : ℕ) (xs : List ℤ) (ls : List ℕ) → n ≤ windowLimit → map small xs ≡ ls → all (λ j. ltb j n) ls ≡ true → xs ≡ map pos ls
 small-all n [] [] l e h = refl
 small-all n [] (j ∷ ls) l e h = absurd (let z : _≡_ {A = ℕ} 0 1 = cc in omega arith)
 small-all n (x ∷ xs) [] l e h = absurd (let z : _≡_ {A = ℕ} 0 1 = cc in omega arith)
@@ -81,7 +81,7 @@ small-all n (x ∷ xs) (j ∷ ls) l e h =
     let t : map small xs ≡ ls = cc in
     ap₂ (λ a r. a ∷ r) (small-back x (omega (arith, ltb-true j n (and-left (ltb j n) (all (λ j. ltb j n) ls) h))) ∙ ap pos d) (small-all n xs ls l t (and-right (ltb j n) (all (λ j. ltb j n) ls) h))
 
-pub small-map : (n : ℕ) (ls : List ℕ) → n ≤ 64 → all (λ j. ltb j n) ls ≡ true → map small (map pos ls) ≡ ls
+pub small-map : (n : ℕ) (ls : List ℕ) → n ≤ windowLimit → all (λ j. ltb j n) ls ≡ true → map small (map pos ls) ≡ ls
 small-map n [] l h = refl
 small-map n (j ∷ ls) l h = ap₂ (λ a r. a ∷ r) (small-pos j (omega (arith, ltb-true j n (and-left (ltb j n) (all (λ j. ltb j n) ls) h)))) (small-map n ls l (and-right (ltb j n) (all (λ j. ltb j n) ls) h))
 
@@ -160,13 +160,13 @@ slots-ranged n h k p s e z a =
 
 pub record Valid (n k : ℕ) (w : List ℤ) : Type 0 where
   pub one : 1 ≤ n
-  pub most : n ≤ 64
+  pub most : n ≤ windowLimit
   pub place : placeFits n (length w) k ≡ true
   pub ranged : all inRange w ≡ true
 
 -- ---- reading a form
 
-module _ (n h k : ℕ) (t : ℤ) (s : List ℤ) (ls : List ℕ) (rest : List ℤ) (most : n ≤ 64) (e : length s ≡ n) (few : length ls ≤ n) where
+module _ (n h k : ℕ) (t : ℤ) (s : List ℤ) (ls : List ℕ) (rest : List ℤ) (most : n ≤ windowLimit) (e : length s ≡ n) (few : length ls ≤ n) where
   abbrev pub whole : List ℤ
   whole = cells n h k t s ls ++ rest
 
@@ -267,7 +267,7 @@ module _ (n k : ℕ) (w : List ℤ) (v : Valid n k w) where
     unfolding keptParts
     form-parts =
         (λ i. keptAs (length b) (size-of i) (held-of i) (next-of i) (total w) (read-count n h k (total w) s ls rest (v .most) slots-long few i) (slots-of i) (read-area n h k (total w) s ls rest (v .most) slots-long few i))
-        ∙ both (both (le-leb 1 n (v .one)) (both (le-leb n 64 (v .most)) (le-leb (formLength n) (length b) (omega (arith, read-long n h k (total w) s ls rest (v .most) slots-long few)))))
+        ∙ both (both (le-leb 1 n (v .one)) (both (le-leb n windowLimit (v .most)) (le-leb (formLength n) (length b) (omega (arith, read-long n h k (total w) s ls rest (v .most) slots-long few)))))
         (both (v .place)
         (both (le-leb (length ls) n few)
         (both (both (turned-zeros n (length w) k (v .place) s slots-long (zeros-of-slots n k w held le)) (past-leaders n h k (total w) s ls rest (v .most) slots-long few)) values-fit)))
@@ -276,7 +276,7 @@ module _ (n k : ℕ) (w : List ℤ) (v : Valid n k w) where
     unfolding wellKept
     form-kept =
         (λ i. keptForm (length b) (size-of i) (held-of i) (next-of i) (values-of i))
-        ∙ both (both (le-leb 1 n (v .one)) (both (le-leb n 64 (v .most)) (le-leb (formLength n) (length b) (omega (arith, read-long n h k (total w) s ls rest (v .most) slots-long few)))))
+        ∙ both (both (le-leb 1 n (v .one)) (both (le-leb n windowLimit (v .most)) (le-leb (formLength n) (length b) (omega (arith, read-long n h k (total w) s ls rest (v .most) slots-long few)))))
         (both (v .place)
         (both (v .ranged)
         (ap (λ l. sameCells b (formOf n k w ++ l)) past-of ∙ cells-same b)))

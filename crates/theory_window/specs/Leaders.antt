@@ -14,7 +14,7 @@ use Rattle.meaning.specs.Base.{all, keep, countFrom, consIf}
 use Rattle.meaning.specs.Value.{inRange, mark}
 use Rattle.meaning_window.specs.Window.{larger, largest, leads, leadersOf, order, after, valueAt, turned}
 use Rattle.value.specs.Overflow.{in-range-size}
-use Rattle.theory_base.specs.Members.{length-countFrom}
+use Rattle.theory_base.specs.Members.{length-countFrom, all-mapped}
 use Rattle.theory_window.specs.Lists.{both, and-left, and-right, map-reverse}
 use Rattle.theory_window.specs.Ring.{length-turned, grown, staying, order-push, order-room, order-full, staying-others, values-order}
 use Rattle.theory_window.specs.Parts.{valuesOf}
@@ -55,10 +55,6 @@ below-largest v (w ∷ ws) y = ap (λ t. ltZ v y && t) (below-largest w ws y) �
 
 -- ---- tests along a list
 
-all-map : {A : Type 0} (f : ℕ → A) (p : A → Bool) (is : List ℕ) → all (λ i. p (f i)) is ≡ all p (map f is)
-all-map f p [] = refl
-all-map f p (i ∷ is) = ap (λ t. p (f i) && t) (all-map f p is)
-
 all-snoc : (p : ℕ → Bool) (is : List ℕ) (j : ℕ) → all p (is ++ (j ∷ [])) ≡ (all p is && p j)
 all-snoc p [] j = and-true (p j)
 all-snoc p (i ∷ is) j = ap (λ t. p i && t) (all-snoc p is j) ∙ sym (and-assoc (p i) (all p is) (p j))
@@ -70,7 +66,7 @@ module _ (f : ℕ → ℤ) where
   first-leads i (j ∷ js) = by (ltZ (largest (f j) (map f js)) (f i)) refl (first-leads j js)
     where
       leads-all : all (λ x. ltZ (f x) (f i)) (j ∷ js) ≡ ltZ (largest (f j) (map f js)) (f i)
-      leads-all = all-map f (λ x. ltZ x (f i)) (j ∷ js) ∙ below-largest (f j) (map f js) (f i)
+      leads-all = sym (all-mapped (λ x. ltZ x (f i)) f (j ∷ js)) ∙ below-largest (f j) (map f js) (f i)
 
       by : (b : Bool) → ltZ (largest (f j) (map f js)) (f i) ≡ b → f (getD (leads f (j ∷ js)) 0 0) ≡ largest (f j) (map f js) → f (getD (leads f (i ∷ j ∷ js)) 0 0) ≡ cond b (f i) (largest (f j) (map f js))
       by true e h = ap (λ t. f (getD (consIf t i (leads f (j ∷ js))) 0 0)) (leads-all ∙ e)
@@ -168,7 +164,7 @@ leads-agree f g [] e = refl
 leads-agree f g (i ∷ is) e =
     let head : f i ≡ g i = cc in
     let tail : map f is ≡ map g is = cc in
-    let tests : all (λ x. ltZ (f x) (f i)) is ≡ all (λ x. ltZ (g x) (g i)) is = all-map f (λ x. ltZ x (f i)) is ∙ ((λ j. all (λ x. ltZ x (head j)) (tail j)) ∙ sym (all-map g (λ x. ltZ x (g i)) is)) in
+    let tests : all (λ x. ltZ (f x) (f i)) is ≡ all (λ x. ltZ (g x) (g i)) is = sym (all-mapped (λ x. ltZ x (f i)) f is) ∙ ((λ j. all (λ x. ltZ x (head j)) (tail j)) ∙ all-mapped (λ x. ltZ x (g i)) g is) in
     let rest : leads f is ≡ leads g is = leads-agree f g is tail in
     (λ j. consIf (tests j) i (rest j))
 
@@ -298,4 +294,4 @@ leaders-back n h k s e l q a =
     above i = ltZ mark (valueAt s i)
 
     held-above : all above (order n h k) ≡ true
-    held-above = all-map (valueAt s) (λ v. ltZ mark v) (order n h k) ∙ all-follows inRange (λ v. ltZ mark v) above-mark (map (valueAt s) (order n h k)) (ap (all inRange) (values-order n h k s e) ∙ a)
+    held-above = sym (all-mapped (λ v. ltZ mark v) (valueAt s) (order n h k)) ∙ all-follows inRange (λ v. ltZ mark v) above-mark (map (valueAt s) (order n h k)) (ap (all inRange) (values-order n h k s e) ∙ a)

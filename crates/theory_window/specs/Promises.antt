@@ -3,16 +3,16 @@ use Prim.Native.Nat.{ℕ}
 use native.Mathlib.Omega.{arith}
 use mathlib.Core.Path.{_≡_, refl, sym, ap, _∙_}
 use mathlib.Core.Logic.{_⊎_, inl, inr}
-use mathlib.Core.Bool.{Bool, true, false, _&&_, not}
+use mathlib.Core.Bool.{Bool, true, false, _&&_, not, true≢false}
 use mathlib.Core.List.{List, [], _∷_}
 use lib.ListN.{length, drop}
 use lib.Dec.{T}
 use lib.IntN.{ℤ}
+use lib.Ieee.Bits.{is-false}
 use Rattle.meaning.specs.Value.{inRange}
 use Rattle.meaning.specs.Calls.{Answer, more, value, refused, tableRefused}
 use Rattle.meaning_window.specs.Window.{turnedBack, scanOf, after, formLength, sizeIn, nextIn, valuesIn, sizeFits, wellKept, written, valuesWith, opensWindow, bringsValue, bringsRefusal, bringsAnswer}
 use Rattle.meaning_window.specs.WindowStatements.{WindowCall, opening, later, callsWindow, Reached, isValue, TurnedBackExactly, Untouched, PastUntouched}
-use Rattle.theory_base.specs.Members.{apart}
 use Rattle.theory_window.specs.Lists.{both, and-left, and-right}
 use Rattle.theory_window.specs.Kept.{Valid, size-of, past-of}
 use Rattle.theory_window.specs.FormByParts.{passed, push-valid}
@@ -46,7 +46,7 @@ unchanged (later (tableRefused number offset)) b e = refl
 
 refusal-unchanged : (a : Answer) (b : List ℤ) → isValue a ≡ false → bringsAnswer a b .buffer ≡ b
 refusal-unchanged (more moves) b e = refl
-refusal-unchanged (value v moves) b e = absurd (apart e)
+refusal-unchanged (value v moves) b e = absurd (true≢false e)
 refusal-unchanged (refused number tokens) b e = refl
 refusal-unchanged (tableRefused number offset) b e = refl
 
@@ -108,12 +108,8 @@ module _ (b : List ℤ) where
       there true q e = inr (λ r. scan-not (valuesWith v b) (sym (ap (λ o. o .answer) (value-met v b (both q (reached-kept b r)))) ∙ e))
       there false q e = inl tt
 
-      no : (t : Bool) → T (not t) → t ≡ false
-      no true u = absurd u
-      no false u = refl
-
       back : T (not (inRange v)) ⊎ (Reached b → ⊥) → bringsValue v b .answer ≡ turnedBack
-      back (inl t) = ap (λ o. o .answer) (value-not v b (ap (λ x. x && wellKept b) (no (inRange v) t)))
+      back (inl t) = ap (λ o. o .answer) (value-not v b (ap (λ x. x && wellKept b) (is-false (inRange v) t)))
       back (inr f) = ap (λ o. o .answer) (value-not v b (and-no (inRange v) (wellKept b) (not-kept f)))
 
 pub turned-back-exactly : TurnedBackExactly

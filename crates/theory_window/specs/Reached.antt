@@ -11,7 +11,7 @@ use lib.Dec.{leb}
 use lib.IntN.{ℤ, pos}
 use Rattle.meaning.specs.Base.{all}
 use Rattle.meaning.specs.Value.{inRange}
-use Rattle.meaning_window.specs.Window.{lastOf, empty, turnedBack, scanOf, zeros, after, formOf, formLength, sizeIn, nextIn, valuesIn, sizeFits, wellKept, Outcome, outcome, written, opensWindow, valuesWith, bringsValue}
+use Rattle.meaning_window.specs.Window.{lastOf, empty, turnedBack, scanOf, zeros, after, formOf, formLength, sizeIn, nextIn, valuesIn, sizeFits, wellKept, Outcome, outcome, written, opensWindow, valuesWith, bringsValue, windowLimit}
 use Rattle.meaning_window.specs.WindowStatements.{afterValues, Reached}
 use Rattle.theory_base.specs.Members.{T→true, true→T}
 use Rattle.theory_window.specs.Lists.{and-left, and-right, both, all-append}
@@ -91,8 +91,8 @@ module _ (n : ℕ) (start : List ℤ) (fits : sizeFits n (length start) ≡ true
 
   pub fresh : Valid n 0 (lastOf n [])
   fresh =
-      let o : 1 ≤ n = leb-true 1 n (and-left (leb 1 n) (leb n 64 && leb (formLength n) (length start)) fits) in
-      let m : n ≤ 64 = leb-true n 64 (and-left (leb n 64) (leb (formLength n) (length start)) (and-right (leb 1 n) (leb n 64 && leb (formLength n) (length start)) fits)) in
+      let o : 1 ≤ n = leb-true 1 n (and-left (leb 1 n) (leb n windowLimit && leb (formLength n) (length start)) fits) in
+      let m : n ≤ windowLimit = leb-true n windowLimit (and-left (leb n windowLimit) (leb (formLength n) (length start)) (and-right (leb 1 n) (leb n windowLimit && leb (formLength n) (length start)) fits)) in
       rw (drop-nil {A = ℤ} (0 - n)) record { one = o; most = m; place = both (le-leb 0 n (omega arith)) (both (lt-ltb 0 n (omega arith)) (rw (ne-eqb 0 n (λ z. omega arith)) (eq-eqb 0 0 refl))); ranged = refl }
 
   pub fresh-form : Valid n 0 []
@@ -157,7 +157,7 @@ pub kept-reached : (b : List ℤ) → wellKept b ≡ true → Reached b
 kept-reached b e =
     let n : ℕ = sizeIn b in
     let p = passed b e in
-    let f : sizeFits (sizeIn b) (length b) ≡ true = both (le-leb 1 n (p .one)) (both (le-leb n 64 (p .most)) (le-leb (formLength n) (length b) (p .long))) in
+    let f : sizeFits (sizeIn b) (length b) ≡ true = both (le-leb 1 n (p .one)) (both (le-leb n windowLimit (p .most)) (le-leb (formLength n) (length b) (p .long))) in
     let x : Leave (sizeIn b) (nextIn b) (valuesIn b) = leave n (nextIn b) (valuesIn b) (kept-valid b p) (kept-next b p) in
     record {
       size = n;

@@ -10,7 +10,7 @@ use lib.Dec.{T, leb}
 use lib.IntN.{ℤ}
 use Rattle.meaning.specs.Value.{inRange}
 use Rattle.meaning.specs.Calls.{more, value, refused, tableRefused}
-use Rattle.meaning_window.specs.Window.{lastOf, turnedBack, scanOf, formOf, formLength, valuesIn, sizeFits, wellKept, opensWindow, bringsValue, bringsRefusal}
+use Rattle.meaning_window.specs.Window.{lastOf, turnedBack, scanOf, formOf, formLength, valuesIn, sizeFits, wellKept, opensWindow, bringsValue, bringsRefusal, windowLimit}
 use Rattle.meaning_window.specs.WindowStatements.{WindowCall, opening, later, callsWindow, afterCalls, Entered, entered, entering, enteredBy, outside, scanned, ScanAlways, KeptAlways}
 use Rattle.theory_base.specs.Members.{T→true, true→T}
 use Rattle.theory_window.specs.Lists.{and-right}
@@ -34,7 +34,7 @@ module _ (long : ℕ) where
       let rest = drop (formLength n) b in
       let valid : Valid n 0 (lastOf n []) = fresh n b f in
       let is : opensWindow n b .buffer ≡ left n (drop (formLength n) b) [] .buffer = ap (λ o. o .buffer) (opened n b f) in
-      let m : formLength n ≤ length b = leb-true (formLength n) (length b) (and-right (leb n 64) (leb (formLength n) (length b)) (and-right (leb 1 n) (leb n 64 && leb (formLength n) (length b)) f)) in
+      let m : formLength n ≤ length b = leb-true (formLength n) (length b) (and-right (leb n windowLimit) (leb (formLength n) (length b)) (and-right (leb 1 n) (leb n windowLimit && leb (formLength n) (length b)) f)) in
       record { rest = rest; valid = valid; is = is; lasts = ap length is ∙ omega (arith, form-length n 0 (lastOf n []) valid rest, length-drop (formLength n) b) }
 
   module _ (e : Entered) (b : List ℤ) (h : Holds long e b) where

@@ -109,7 +109,7 @@ pub set-empty : setOf 0 ≡ emptySet
 unfolding setOf bit
 set-empty = refl
 
-pub set-end : setOf (2 ^ 63) ≡ singleton endNumber
+pub set-end : setOf (2 ^ endNumber) ≡ singleton endNumber
 unfolding setOf bit
 set-end = refl
 

@@ -1,6 +1,6 @@
 -- A signed local holds bits: what is read back from them.
 use Prim.Native.Nat.{_<_}
-use mathlib.Core.Path.{_≡_, refl, sym, subst}
+use mathlib.Core.Path.{_≡_, refl, sym, subst, _∙_}
 use mathlib.Core.Bool.{Bool, true, false, cond}
 use native.Mathlib.Omega.{arith}
 use borrow.Author.Tests.{leb-true}
@@ -13,6 +13,10 @@ use mir.Val.{SFits, toZ, ofZ}
 use Rattle.meaning.specs.Value.{inRange, mark}
 use Rattle.value.specs.Ranged.{ranged}
 use Rattle.value.specs.Overflow.{in-range-size, fits64}
+
+-- a number that a signed local holds
+pub held : {z y : ℤ} → SFits w64 z → z ≡ y → toZ w64 (ofZ w64 z) ≡ y
+held f e = toZ-ofZ f ∙ e
 
 pub in-range-fits : (z : ℤ) → inRange z ≡ true → SFits w64 z
 in-range-fits z e = fits64 z (omega (arith, in-range-size z e))

@@ -1,7 +1,7 @@
 ghost use Prim.Native.Nat.{_+_, _<_, _≤_};
 ghost use mathlib.Core.Path.{_≡_};
 ghost use mathlib.Core.Bool.{true, _&&_};
-ghost use lib.ListN.{length};
+ghost use lib.ListN.{length, getD};
 ghost use lib.IntN.{_+ℤ_};
 ghost use lib.Signed.{leZ};
 ghost use Rattle.meaning.specs.Calls.{isMark};
@@ -81,6 +81,23 @@ pub fn wide(x: u8) -> u32
     ensures { λ r. ⌜ (r ≡ x) × (r < 256) ⌝ }
 {
     x as u32
+}
+
+// A word as an index.
+pub fn index_of(x: u32) -> usize
+    ensures { λ r. ⌜ (r ≡ x) × (r < 4294967296) ⌝ }
+{
+    x as usize
+}
+
+// A word of a list, 0 past the end.
+pub fn word_or_zero(words: &[u32], at: usize) -> u32
+    ensures { λ r. ⌜ r ≡ getD (now (words .entry)) at 0 ⌝ }
+{
+    if words.len() <= at {
+        return 0;
+    }
+    words[at]
 }
 
 // 0 past the end.

@@ -1,7 +1,7 @@
 -- What the calls answer and leave, case by case.
 use Prim.Native.Nat.{ℕ, suc, _+_, _-_, _*_}
 use native.Mathlib.Omega.{arith}
-use mathlib.Core.Path.{_≡_, refl, sym, ap, _∙_}
+use mathlib.Core.Path.{_≡_, sym, ap, _∙_}
 use mathlib.Core.Bool.{true}
 use mathlib.Core.List.{List, [], _∷_, _++_, append-nil}
 use lib.ListN.{length, drop, set, length-replicate, drop-of-length-le, replicate-append-replicate}
@@ -15,16 +15,13 @@ use Rattle.theory_window.specs.Cases.{opens-met, value-met}
 use Rattle.theory_window.specs.FormByParts.{passed}
 use Rattle.theory_window.specs.Next.{topWith, push-scan}
 use Rattle.window_found.specs.Checks.{foundIn}
+use Rattle.theory_base.specs.Members.{no-elements}
 
 -- ---- opening
 
-none : (l : List ℕ) → length l ≡ 0 → l ≡ []
-none [] e = refl
-none (x ∷ l) e = absurd (omega arith)
-
 form-empty : (n : ℕ) → formOf n 0 [] ≡ pos n ∷ zeros (4 + 2 * n)
 form-empty n =
-    let o : order n 0 0 ≡ [] = none (order n 0 0) (length-order n 0 0 (omega arith)) in
+    let o : order n 0 0 ≡ [] = no-elements (order n 0 0) (length-order n 0 0 (omega arith)) in
     let z : n - 0 ≡ n = omega arith in
     let s : slotsOf n 0 [] ≡ zeros n = ap (λ m. turned m (zeros m ++ [])) z ∙ (ap (turned n) (append-nil (zeros n)) ∙ whole) in
     let m : 4 + 2 * n ≡ suc (suc (suc (suc (n + n)))) = omega arith in

@@ -6,15 +6,14 @@ ghost use Rattle.meaning_window.specs.Window.{opensWindow, bringsValue, bringsR
 ghost use Rattle.theory_window.specs.Parts.{answerOf};
 ghost use Rattle.window_push.specs.Parts as Parts;
 ghost use Rattle.window.specs.Answers.{answerIs, outcomeIs};
+use limits::PAST_WINDOW;
+use limits::WINDOW;
 use value::in_range;
 use window_cells::clear;
 use window_found::Checked;
 use window_found::Found;
 use window_kept::check;
 use window_push::renew;
-
-// The largest size of a window.
-const MOST: u64 = 64;
 
 pub enum WindowAnswer {
     Totals { total: i64, largest: i64 },
@@ -53,7 +52,7 @@ pub fn window_open(size: u64, buffer: &mut [i64]) -> WindowAnswer
     if size < 1 {
         return WindowAnswer::Refused;
     }
-    if MOST < size {
+    if (WINDOW as u64) < size {
         return WindowAnswer::Refused;
     }
     let length = 5 + 2 * size as usize;
@@ -72,7 +71,7 @@ pub fn window_value(value: i64, buffer: &mut [i64]) -> WindowAnswer
     if !in_range(value) {
         return WindowAnswer::Refused;
     }
-    let mut leaders = [0u8; 65];
+    let mut leaders = [0u8; PAST_WINDOW];
     let Checked::Kept(found) = check(buffer, value, &mut leaders) else {
         return WindowAnswer::Refused;
     };
@@ -83,7 +82,7 @@ pub fn window_value(value: i64, buffer: &mut [i64]) -> WindowAnswer
 pub fn window_state(buffer: &[i64]) -> WindowAnswer
     ensures { λ r. ⌜ answerIs r ≡ bringsRefusal (now (buffer .entry)) ⌝ }
 {
-    let mut leaders = [0u8; 65];
+    let mut leaders = [0u8; PAST_WINDOW];
     let Checked::Kept(found) = check(buffer, 0, &mut leaders) else {
         return WindowAnswer::Refused;
     };

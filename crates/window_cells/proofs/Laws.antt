@@ -3,7 +3,7 @@ use Prim.Native.Nat.{ℕ, zero, suc, _+_, _<_, _≤_}
 use native.Mathlib.Numerals.{add-one}
 use native.Mathlib.Omega.{arith}
 use mathlib.Core.Path.{_≡_, refl, sym, ap, _∙_}
-use mathlib.Core.Bool.{Bool, true, false, _&&_}
+use mathlib.Core.Bool.{true, false, _&&_}
 use mathlib.Core.List.{List, [], _∷_, _++_, map, map-append}
 use borrow.Author.Tests.{leb-true, le-leb}
 use lib.IntN.{ℤ, pos, negsuc, natAbs}
@@ -11,8 +11,9 @@ use lib.Signed.{leZ, nonNeg}
 use lib.Dec.{T, leb}
 use lib.ListN.{length, getD, take, drop, set, length-replicate, length-map}
 use lib.Seq.{drop-cons, set-at, append-snoc, take-suc, length-take-le}
-use Rattle.meaning_window.specs.Window.{zeros, small}
+use Rattle.meaning_window.specs.Window.{zeros, small, windowLimit, pastWindow}
 use Rattle.theory_window.specs.Lists.{and-right}
+use Rattle.theory_base.specs.Members.{right-false}
 
 -- ---- stores from the front
 
@@ -35,13 +36,10 @@ put-turn d cells f i v l m e q =
 
 -- ---- small numbers
 
-pub small-in : (v : ℤ) → (leZ (pos 0) v && leZ v (pos 64)) ≡ true → T (nonNeg v) × (natAbs v ≡ small v) × (natAbs v ≤ 64)
-small-in (pos m) e = (tt, rw (and-right (leb 0 m) (leb m 64) e) refl, leb-true m 64 (and-right (leb 0 m) (leb m 64) e))
+pub small-in : (v : ℤ) → (leZ (pos 0) v && leZ v (pos windowLimit)) ≡ true → T (nonNeg v) × (natAbs v ≡ small v) × (natAbs v ≤ windowLimit)
+small-in (pos m) e = (tt, rw (and-right (leb 0 m) (leb m windowLimit) e) refl, leb-true m windowLimit (and-right (leb 0 m) (leb m windowLimit) e))
 small-in (negsuc m) e = absurd (let z : _≡_ {A = ℕ} 0 1 = cc in omega arith)
 
-pub small-out : (v : ℤ) → (leZ (pos 0) v && leZ v (pos 64)) ≡ false → 65 ≡ small v
-small-out (pos m) e = rw (right-false (leb 0 m) (leb m 64) (le-leb 0 m (omega arith)) e) refl
-  where
-    right-false : (a b : Bool) → a ≡ true → (a && b) ≡ false → b ≡ false
-    right-false a b p q = rw p at q
+pub small-out : (v : ℤ) → (leZ (pos 0) v && leZ v (pos windowLimit)) ≡ false → pastWindow ≡ small v
+small-out (pos m) e = rw (right-false (leb 0 m) (leb m windowLimit) (le-leb 0 m (omega arith)) e) refl
 small-out (negsuc m) e = refl

@@ -6,8 +6,10 @@ ghost use lib.ListN.{length, getD, take};
 ghost use lib.IntN.{pos};
 ghost use Rattle.meaning.specs.Base.{all};
 ghost use Rattle.meaning_window.specs.Window as Window;
-ghost use Rattle.meaning_window.specs.Window.{zeros, numberAt, sameNumber};
+ghost use Rattle.meaning_window.specs.Window.{zeros, numberAt, sameNumber, pastWindow};
 ghost use Rattle.theory_window.specs.Parts.{isZero};
+use limits::PAST_WINDOW;
+use limits::WINDOW;
 use value::in_bounds;
 
 pub fn same(a: i64, b: i64) -> bool
@@ -21,12 +23,12 @@ pub fn same(a: i64, b: i64) -> bool
 
 // A number from 0 to 64, and 65 for anything else.
 pub fn small(v: i64) -> usize
-    ensures { λ r. ⌜ (r ≡ Window.small v) × (r ≤ 65) ⌝ }
+    ensures { λ r. ⌜ (r ≡ Window.small v) × (r ≤ pastWindow) ⌝ }
 {
-    if in_bounds(v, 0, 64) {
+    if in_bounds(v, 0, WINDOW as i64) {
         return v as usize;
     }
-    65
+    PAST_WINDOW
 }
 
 // 0 past the end.
@@ -40,7 +42,7 @@ fn cell(cells: &[i64], at: usize) -> i64
 }
 
 pub fn number_at(cells: &[i64], at: usize) -> usize
-    ensures { λ r. ⌜ (r ≡ numberAt (now (cells .entry)) at) × (r ≤ 65) ⌝ }
+    ensures { λ r. ⌜ (r ≡ numberAt (now (cells .entry)) at) × (r ≤ pastWindow) ⌝ }
 {
     small(cell(cells, at))
 }

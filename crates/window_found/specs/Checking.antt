@@ -9,7 +9,7 @@ use lib.ListN.{length, drop}
 use lib.Dec.{leb}
 use lib.IntN.{ℤ, _+ℤ_, _-ℤ_}
 use Rattle.meaning.specs.Base.{all}
-use Rattle.meaning_window.specs.Window.{valueAt, sizeIn, heldIn, nextIn, totalIn, sizeFits, placeFits, wellKept}
+use Rattle.meaning_window.specs.Window.{valueAt, sizeIn, heldIn, nextIn, totalIn, sizeFits, placeFits, wellKept, windowLimit, pastWindow}
 use Rattle.theory_window.specs.FormByParts.{kept-parts}
 use Rattle.theory_window.specs.Lists.{and-left}
 use Rattle.theory_window.specs.Parts.{keptParts, countIn, isZero, topAt, valuesFit, restZero}
@@ -47,7 +47,7 @@ module _ (b : List ℤ) (v : ℤ) (cells : List ℕ) (n : ℕ) (e : n ≡ sizeIn
 
 -- ---- the parts of a buffer of size n
 
-module _ (b : List ℤ) (v : ℤ) (cells : List ℕ) (n : ℕ) (most : n ≤ 64) (long : 5 + 2 * n ≤ length b) where
+module _ (b : List ℤ) (v : ℤ) (cells : List ℕ) (n : ℕ) (most : n ≤ windowLimit) (long : 5 + 2 * n ≤ length b) where
   abbrev slotsPart : List ℤ
   slotsPart = Cut.slotsPart b n most long
 
@@ -99,7 +99,7 @@ module _ (b : List ℤ) (v : ℤ) (cells : List ℕ) (n : ℕ) (most : n ≤ 64)
               largest = topAt (Cut.slots-part b n most long i) (Cut.area-part b n most long i) (ec i) 0;
               sum = (ap (λ x. t -ℤ x +ℤ v) u ∙ (λ j. et j -ℤ valueAt (Cut.slots-part b n most long j) (ek j) +ℤ v)) i;
               top = topWith (Cut.slots-part b n most long i) (ek i) v (claimed (Cut.area-part b n most long i) (ec i));
-              from = 65 - length (new i);
+              from = pastWindow - length (new i);
             }) in
             record {
               answer = q .answer ∙ (λ i. checked (m i) (f i));

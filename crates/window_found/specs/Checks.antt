@@ -6,7 +6,7 @@ use mathlib.Core.Bool.{Bool, true, false, cond}
 use mathlib.Core.List.{List, map}
 use lib.ListN.{length, take, drop}
 use lib.IntN.{ℤ, _+ℤ_, _-ℤ_}
-use Rattle.meaning_window.specs.Window.{small, valueAt, sizeIn, heldIn, nextIn, totalIn, wellKept}
+use Rattle.meaning_window.specs.Window.{small, valueAt, sizeIn, heldIn, nextIn, totalIn, wellKept, pastWindow}
 use Rattle.theory_window.specs.Parts.{countIn, topAt, valuesFit}
 use Rattle.theory_window.specs.Next.{leavingOf, leadersWith, topWith}
 use Rattle.window_found.specs.Parts.{partsKept}
@@ -20,8 +20,8 @@ checked b f = cond b (Kept f) Wrong
 
 -- the lent cells end with these numbers
 pub record EndsWith (ls cells : List ℕ) : Type 0 where
-  pub long : length cells ≡ 65
-  pub tail : drop (65 - length ls) cells ≡ ls
+  pub long : length cells ≡ pastWindow
+  pub tail : drop (pastWindow - length ls) cells ≡ ls
 
 pub ends-same : {ls ks cells : List ℕ} → ls ≡ ks → EndsWith ls cells → EndsWith ks cells
 ends-same e w = rw (← e) w
@@ -41,7 +41,7 @@ foundOf s area at v = record {
   largest = topAt s area (at .count) 0;
   sum = at .total -ℤ leavingOf (length s) (at .held) (valueAt s (at .next)) +ℤ v;
   top = topWith s (at .next) v (claimed area (at .count));
-  from = 65 - length (leadersWith s (at .next) v (claimed area (at .count)));
+  from = pastWindow - length (leadersWith s (at .next) v (claimed area (at .count)));
 }
 
 abbrev pub valuesKept : (s area : List ℤ) → Numbers → Bool
@@ -72,7 +72,7 @@ foundParts b n v = record {
   largest = topAt (slotsPart b n) (areaPart b n) (countIn b) 0;
   sum = totalIn b -ℤ valueAt (slotsPart b n) (nextIn b) +ℤ v;
   top = topWith (slotsPart b n) (nextIn b) v (claimed (areaPart b n) (countIn b));
-  from = 65 - length (newLeaders b n v);
+  from = pastWindow - length (newLeaders b n v);
 }
 
 pub record CheckedParts (b : List ℤ) (n : ℕ) (v : ℤ) (r : Checked) (cells : List ℕ) : Type 0 where

@@ -5,8 +5,9 @@ use mathlib.Core.Path.{_≡_, ap}
 use mathlib.Core.List.{List}
 use lib.ListN.{length, take, drop, length-take, length-drop}
 use lib.IntN.{ℤ}
+use Rattle.meaning_window.specs.Window.{windowLimit}
 
-module _ (b : List ℤ) (n : ℕ) (most : n ≤ 64) (long : 5 + 2 * n ≤ length b) where
+module _ (b : List ℤ) (n : ℕ) (most : n ≤ windowLimit) (long : 5 + 2 * n ≤ length b) where
   abbrev pub slotsPart : List ℤ
   slotsPart = take (5 + n - 5) (drop 5 b)
 

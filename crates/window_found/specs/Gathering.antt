@@ -12,7 +12,7 @@ use lib.IntN.{ℤ, pos, natAbs, _+ℤ_, _-ℤ_}
 use lib.Signed.{ltZ}
 use Rattle.meaning.specs.Base.{keep, consIf}
 use Rattle.meaning.specs.Value.{inRange, mark}
-use Rattle.meaning_window.specs.Window.{valueAt, numberAt, sameNumber}
+use Rattle.meaning_window.specs.Window.{valueAt, numberAt, sameNumber, windowLimit, pastWindow}
 use Rattle.value.specs.Overflow.{reach, in-range-size}
 use Rattle.theory_base.specs.Absolute.{natAbs-add}
 use Rattle.theory_window.specs.Lists.{and-left, and-right}
@@ -40,8 +40,8 @@ pub record Walking (s area : List ℤ) (at : Numbers) (v : ℤ) (left : ℕ) (w 
   pub few : left ≤ at .held
   pub unmatched : w .unmatched ≤ at .count
   pub room : w .unmatched ≤ w .from
-  pub most : w .from ≤ 64
-  pub long : length cells ≡ 65
+  pub most : w .from ≤ windowLimit
+  pub long : length cells ≡ pastWindow
   pub size : natAbs (w .sum) ≤ reach * (at .held - left)
   pub last : natAbs (w .last) ≤ reach
   pub fits : valuesKept s area at ≡ leftFits s area (at .count) (at .total) (w .top) (w .sum) (w .slot) (w .unmatched) left
@@ -61,25 +61,25 @@ module _ (s area : List ℤ) (at : Numbers) (v : ℤ) (p : Parts.Window s area a
   ls = claimed area (at .count)
 
   abbrev pub started : Walk
-  started = record { slot = at .next; last = pos 0; sum = pos 0; top = mark; unmatched = at .count; from = 64; best = v }
+  started = record { slot = at .next; last = pos 0; sum = pos 0; top = mark; unmatched = at .count; from = windowLimit; best = v }
 
-  pub walk-starts : (cells : List ℕ) → length cells ≡ 65 → Walking s area at v (at .held) started (set cells 64 (at .next))
+  pub walk-starts : (cells : List ℕ) → length cells ≡ pastWindow → Walking s area at v (at .held) started (set cells windowLimit (at .next))
   walk-starts cells long =
       let none : drop c ls ≡ [] = drop-of-length-le ls {i = c} (omega (arith, claimed-long s area at p)) in
-      let over : drop 65 cells ≡ [] = drop-of-length-le cells {i = 65} (omega arith) in
+      let over : drop pastWindow cells ≡ [] = drop-of-length-le cells {i = pastWindow} (omega arith) in
       record {
         slot = p .next;
         few = omega arith;
         unmatched = omega arith;
         room = omega (arith, p .count, p .few);
         most = omega arith;
-        long = length-set cells 64 k ∙ long;
+        long = length-set cells windowLimit k ∙ long;
         size = omega arith;
         last = omega arith;
         fits = left-start s area at p;
         top = top-start s area c;
         leaves = refl;
-        leaders = put-before cells 64 k (omega arith) ∙ (ap (λ l. k ∷ l) over ∙ sym (ap (leadersWith s k v) none));
+        leaders = put-before cells windowLimit k (omega arith) ∙ (ap (λ l. k ∷ l) over ∙ sym (ap (leadersWith s k v) none));
         best = sym (ap (topWith s k v) none ∙ getD-set-same s k v (pos 0) (p .next));
       }
 
@@ -218,7 +218,7 @@ module _ (s area : List ℤ) (at : Numbers) (v : ℤ) (p : Parts.Window s area a
       new : drop (w .from) cells ≡ leadersWith s k v ls
       new = m .leaders ∙ ap (λ u. leadersWith s k v (drop u ls)) q
 
-      begin : w .from ≡ 65 - length (leadersWith s k v ls)
+      begin : w .from ≡ pastWindow - length (leadersWith s k v ls)
       begin = omega (arith, ap length new, length-drop (w .from) cells, m .long, m .most)
 
       ends-with : EndsWith (leadersWith s k v ls) cells

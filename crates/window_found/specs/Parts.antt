@@ -6,13 +6,13 @@ use mathlib.Core.List.{List, map}
 use lib.ListN.{length, take, drop}
 use lib.Dec.{leb}
 use lib.IntN.{ℤ}
-use Rattle.meaning_window.specs.Window.{small, heldIn, nextIn, totalIn, placeFits}
+use Rattle.meaning_window.specs.Window.{small, heldIn, nextIn, totalIn, placeFits, windowLimit}
 use Rattle.window_found.specs.declared.Numbers.{Numbers}
 use Rattle.theory_window.specs.Parts.{countIn, valuesFit, restZero}
 
 -- slots and leader cells that fit their window's numbers
 pub record Window (s area : List ℤ) (at : Numbers) : Type 0 where
-  pub few : length s ≤ 64
+  pub few : length s ≤ windowLimit
   pub alike : length area ≡ length s
   pub held : at .held ≤ length s
   pub next : at .next < length s

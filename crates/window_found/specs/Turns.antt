@@ -7,7 +7,7 @@ use lib.Dec.{eqb}
 use lib.IntN.{ℤ, natAbs, _+ℤ_, _-ℤ_}
 use lib.Signed.{ltZ}
 use Rattle.meaning.specs.Value.{inRange}
-use Rattle.meaning_window.specs.Window.{valueAt, numberAt, sameNumber}
+use Rattle.meaning_window.specs.Window.{valueAt, numberAt, sameNumber, windowLimit}
 use Rattle.value.specs.Overflow.{reach}
 use Rattle.theory_window.specs.Leaders.{before}
 use Rattle.theory_window.specs.Next.{leavingOf}
@@ -21,15 +21,15 @@ use Rattle.window_found.specs.declared.Checked.the-variants as Checked
 
 -- what a turn needs: a slot, room for a leader where one is not matched yet, and a sum that has room
 pub record ReadyForTurn (s : List ℤ) (w : Walk) : Type 0 where
-  pub few : length s ≤ 64
+  pub few : length s ≤ windowLimit
   pub slot : w .slot < length s
   pub room : w .unmatched ≤ w .from
-  pub most : w .from ≤ 64
-  pub size : natAbs (w .sum) ≤ reach * 64
+  pub most : w .from ≤ windowLimit
+  pub size : natAbs (w .sum) ≤ reach * windowLimit
 
 -- what the end needs: numbers whose sum has room
 pub record Ended (v : ℤ) (w : Walk) : Type 0 where
-  pub sum : natAbs (w .sum) ≤ reach * 64
+  pub sum : natAbs (w .sum) ≤ reach * windowLimit
   pub last : natAbs (w .last) ≤ reach
   pub value : natAbs v ≤ reach
 

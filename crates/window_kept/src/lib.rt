@@ -5,9 +5,11 @@ ghost use mathlib.Core.Path.{_≡_};
 ghost use mathlib.Core.Bool.{true};
 ghost use lib.ListN.{length};
 ghost use Rattle.meaning.specs.Value.{inRange};
-ghost use Rattle.meaning_window.specs.Window.{placeFits};
+ghost use Rattle.meaning_window.specs.Window.{placeFits, windowLimit, pastWindow};
 ghost use Rattle.theory_window.specs.Parts.{restZero};
 ghost use Rattle.window_found.specs.Checks.{CheckedParts, CheckedIn};
+use limits::PAST_WINDOW;
+use limits::WINDOW;
 use window_cells::all_zero;
 use window_cells::number_at;
 use window_found::Checked;
@@ -39,8 +41,8 @@ fn rest_zero(slots: &[i64], area: &[i64], held: usize, count: usize) -> bool
     all_zero(&area[count..])
 }
 
-fn parts_kept(buffer: &[i64], size: usize, value: i64, leaders: &mut [u8; 65]) -> Checked
-    requires { ⌜ (size ≤ 64) × (5 + 2 * size ≤ length (now buffer)) × (inRange value ≡ true) × (length (now leaders) ≡ 65) ⌝ }
+fn parts_kept(buffer: &[i64], size: usize, value: i64, leaders: &mut [u8; PAST_WINDOW]) -> Checked
+    requires { ⌜ (size ≤ windowLimit) × (5 + 2 * size ≤ length (now buffer)) × (inRange value ≡ true) × (length (now leaders) ≡ pastWindow) ⌝ }
     ensures { λ r. ⌜ CheckedParts (now (buffer .entry)) size value r (now (leaders .exit)) ⌝ }
 {
     let held = number_at(buffer, 1);
@@ -68,15 +70,15 @@ fn parts_kept(buffer: &[i64], size: usize, value: i64, leaders: &mut [u8; 65]) -
 }
 
 // Whether the buffer is well kept, what the test has read of it, and what the window is with the value. No cell is read twice.
-pub fn check(buffer: &[i64], value: i64, leaders: &mut [u8; 65]) -> Checked
-    requires { ⌜ (inRange value ≡ true) × (length (now leaders) ≡ 65) ⌝ }
+pub fn check(buffer: &[i64], value: i64, leaders: &mut [u8; PAST_WINDOW]) -> Checked
+    requires { ⌜ (inRange value ≡ true) × (length (now leaders) ≡ pastWindow) ⌝ }
     ensures { λ r. ⌜ CheckedIn (now (buffer .entry)) value r (now (leaders .exit)) ⌝ }
 {
     let size = number_at(buffer, 0);
     if size < 1 {
         return Checked::Wrong;
     }
-    if 64 < size {
+    if WINDOW < size {
         return Checked::Wrong;
     }
     if buffer.len() < 5 + 2 * size {

@@ -7,7 +7,7 @@ use mathlib.Core.List.{List, [], _∷_}
 use lib.ListN.{length, set, length-append}
 use lib.IntN.{ℤ}
 use Rattle.meaning.specs.Base.{keep}
-use Rattle.meaning_window.specs.Window.{after, leadersOf, sizeIn, heldIn, nextIn, slotsIn, wellKept}
+use Rattle.meaning_window.specs.Window.{after, leadersOf, sizeIn, heldIn, nextIn, slotsIn, wellKept, pastWindow}
 use Rattle.theory_window.specs.Ring.{grown, length-grown}
 use Rattle.theory_window.specs.Leaders.{stays, leaders-push}
 use Rattle.theory_window.specs.Kept.{leaders-few}
@@ -49,7 +49,7 @@ module _ (b : List ℤ) (kept : wellKept b ≡ true) (v : ℤ) where
       let size : f .size ≡ n = ap (λ x. x .size) (w .found) in
       let held : f .held ≡ h = ap (λ x. x .held) (w .found) in
       let next : f .next ≡ k = ap (λ x. x .next) (w .found) in
-      let from : f .from ≡ 65 - length new = ap (λ x. x .from) (w .found) in
+      let from : f .from ≡ pastWindow - length new = ap (λ x. x .from) (w .found) in
       record {
         known = w;
         most = omega (arith, passed b kept .most);

@@ -3,6 +3,7 @@ use Prim.Native.Nat.{ℕ, _+_, _-_, _*_, _≤_, _<_}
 use mathlib.Core.List.{List}
 use lib.ListN.{length, set}
 use lib.IntN.{ℤ, pos}
+use Rattle.meaning_window.specs.Window.{windowLimit, pastWindow}
 use Rattle.window_found.specs.Checks.{KnownWhereKept}
 use Rattle.window_found.specs.declared.Found.{Found}
 
@@ -13,9 +14,9 @@ stored b h k t c slot v = set (set (set (set (set b 1 (pos h)) 2 (pos k)) 3 t) 4
 -- a well kept buffer, what the check has found in it, and a value to bring
 pub record ValueBrought (b : List ℤ) (f : Found) (v : ℤ) (cells : List ℕ) : Type 0 where
   pub known : KnownWhereKept b v f cells
-  pub most : f .size ≤ 64
+  pub most : f .size ≤ windowLimit
   pub long : 5 + 2 * f .size ≤ length b
   pub place : f .held ≤ f .size
   pub slot : f .next < f .size
-  pub from : f .from ≤ 64
-  pub few : 65 - f .from ≤ f .size
+  pub from : f .from ≤ windowLimit
+  pub few : pastWindow - f .from ≤ f .size

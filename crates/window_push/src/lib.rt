@@ -3,10 +3,11 @@ ghost use Prim.Native.Nat.{_+_, _<_, _≤_};
 ghost use mathlib.Core.Path.{_≡_};
 ghost use lib.ListN.{length};
 ghost use Rattle.meaning_window.specs.Window as Window;
-ghost use Rattle.meaning_window.specs.Window.{leaderCells, sizeIn, nextIn, written, valuesWith};
+ghost use Rattle.meaning_window.specs.Window.{leaderCells, sizeIn, nextIn, written, valuesWith, windowLimit, pastWindow};
 ghost use Rattle.theory_window.specs.Ring as Ring;
 ghost use Rattle.window_push.specs.Parts as Parts;
 ghost use Rattle.window_push.specs.Parts.{stored};
+use limits::PAST_WINDOW;
 use window_cells::clear;
 use window_cells::put;
 use window_found::Found;
@@ -51,7 +52,7 @@ fn store(
     slot: usize,
     value: i64,
 )
-    requires { ⌜ (held ≤ 65) × (next ≤ 65) × (count ≤ 65) × (slot ≤ 64) × (5 + slot < length (now buffer)) ⌝ }
+    requires { ⌜ (held ≤ pastWindow) × (next ≤ pastWindow) × (count ≤ pastWindow) × (slot ≤ windowLimit) × (5 + slot < length (now buffer)) ⌝ }
     ensures { λ r. ⌜ now (buffer .exit) ≡ stored (now (buffer .entry)) held next sum count slot value ⌝ }
 {
     buffer[1] = held as i64;
@@ -71,6 +72,14 @@ pub fn renew(buffer: &mut [i64], found: Found, value: i64, leaders: &[u8])
     let from = found.from;
     let held = grown(size, found.held);
     let following = after(size, next);
-    store(buffer, held, following, found.sum, 65 - from, next, value);
+    store(
+        buffer,
+        held,
+        following,
+        found.sum,
+        PAST_WINDOW - from,
+        next,
+        value,
+    );
     lay(&mut buffer[5 + size..5 + 2 * size], &leaders[from..]);
 }

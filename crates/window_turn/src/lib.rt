@@ -3,6 +3,7 @@ ghost use Prim.Native.Nat.{_<_};
 ghost use mathlib.Core.Path.{_≡_};
 ghost use Rattle.theory_window.specs.Leaders as Leaders;
 ghost use Rattle.window_found.specs.Turns.{ReadyForTurn, matchedAt, staysAt, turned, cellsAfter};
+use limits::PAST_WINDOW;
 use value::in_range;
 use window_cells::number_at;
 use window_found::Turn;
@@ -45,7 +46,7 @@ pub fn one_turn(
     next: usize,
     value: i64,
     w: Walk,
-    leaders: &mut [u8; 65],
+    leaders: &mut [u8; PAST_WINDOW],
 ) -> Turn
     requires { ⌜ ReadyForTurn (now slots) w ⌝ }
     ensures { λ r. ⌜ (r ≡ turned (now (slots .entry)) (now (area .entry)) next value w) × (now (leaders .exit) ≡ cellsAfter (now (slots .entry)) (now (area .entry)) next value w (now (leaders .entry))) ⌝ }

@@ -2,11 +2,14 @@
 ghost use mathlib.Core.Path.{_≡_};
 ghost use mathlib.Core.Bool.{true};
 ghost use lib.ListN.{length};
+ghost use Rattle.meaning_window.specs.Window.{pastWindow};
 ghost use Rattle.meaning.specs.Value.{inRange};
 ghost use Rattle.theory_window.specs.Next.{leavingOf};
 ghost use Rattle.window_found.specs.Parts as Parts;
 ghost use Rattle.window_found.specs.Turns.{Ended, concluded};
 ghost use Rattle.window_found.specs.Checks.{Walked};
+use limits::PAST_WINDOW;
+use limits::WINDOW;
 use value::MARK;
 use window_cells::same;
 use window_found::Checked;
@@ -55,20 +58,20 @@ pub fn walk_back(
     area: &[i64],
     at: Numbers,
     value: i64,
-    leaders: &mut [u8; 65],
+    leaders: &mut [u8; PAST_WINDOW],
 ) -> Checked
-    requires { ⌜ Parts.Window (now slots) (now area) at × (inRange value ≡ true) × (length (now leaders) ≡ 65) ⌝ }
+    requires { ⌜ Parts.Window (now slots) (now area) at × (inRange value ≡ true) × (length (now leaders) ≡ pastWindow) ⌝ }
     ensures { λ r. ⌜ Walked (now (slots .entry)) (now (area .entry)) at value r (now (leaders .exit)) ⌝ }
 {
     let next = at.next;
-    leaders[64] = next as u8;
+    leaders[WINDOW] = next as u8;
     let mut w = Walk {
         slot: next,
         last: 0,
         sum: 0,
         top: MARK,
         unmatched: at.count,
-        from: 64,
+        from: WINDOW,
         best: value,
     };
     let mut left = at.held;

@@ -1,10 +1,10 @@
-use Prim.Native.Nat.{_<_, _-_}
 use native.Mathlib.Omega.{arith}
 use borrow.Author.Needs.{needs}
 use borrow.Author.Tests.{not-true, not-false}
 use lib.ListN.{drop}
 use mathlib.Core.Path.{sym, _∙_}
-use Rattle.outline.specs.Images.{rightAt, sizeAt, row-inside, symbol-inside, right-end}
+use Prim.Native.Nat.{_<_, _-_}
+use Rattle.outline.specs.Images.{rightAt, sizeAt, row-inside, symbol-inside, right-end, symbolBytes}
 use Rattle.set_words.specs.Views.{members, next-small, next-token, next-nonterminal}
 use Rattle.analysis.specs.Fronts.{Heading, heading-start, heading-token, heading-next, heading-stop, heading-end}
 use Rattle.analysis_first.proofs.front_of.Statement.{statement}
@@ -21,7 +21,7 @@ inside : (c : tie.In-loop Inv-loop μ-loop) → c .before .loop .i < sizeAt (c .
 inside c = omega (arith, c .before .before .size-of .ensures .0)
 
 -- and it is one
-symbol : (c : tie.After-symbol-of Inv-loop μ-loop) → c .symbol-of .result < 176
+symbol : (c : tie.After-symbol-of Inv-loop μ-loop) → c .symbol-of .result < symbolBytes
 symbol c =
     let lp = c .before .before in
     let row = lp .before .before .before .before .pre in

@@ -3,13 +3,14 @@ use native.Mathlib.Omega.{arith}
 use borrow.Author.Needs.{needs}
 use lib.ListN.{length}
 use mathlib.Core.Path.{_≡_, sym, _∙_}
+use Rattle.meaning.specs.Limits.{nonterminalsLimit}
 use Rattle.analysis.specs.Tables.{Short}
 use Rattle.analysis.specs.Spreading.{Spreading, spreading-start, spreading-skip, spreading-next, spreading-edges, spreading-sets}
 use Rattle.analysis_spreading.proofs.spread.Statement.{statement}
 use Rattle.analysis_spreading.proofs.spread.Tie as tie
 
 abbrev Inv-loop : tie.InvT-loop
-Inv-loop edges₀ sets₀ n used k₀ edges sets k = (k ≤ n) × (length edges ≡ 48) × (length sets ≡ 48) × (Short n edges₀ → Short n sets₀ → Spreading n (used .0) edges₀ sets₀ edges sets k)
+Inv-loop edges₀ sets₀ n used k₀ edges sets k = (k ≤ n) × (length edges ≡ nonterminalsLimit) × (length sets ≡ nonterminalsLimit) × (Short n edges₀ → Short n sets₀ → Spreading n (used .0) edges₀ sets₀ edges sets k)
 
 abbrev μ-loop : tie.MeasureT-loop
 μ-loop edges₀ sets₀ n used k₀ edges sets k = n - k

@@ -2,6 +2,7 @@ use native.Mathlib.Omega.{arith}
 use Prim.Native.Nat.{ℕ, _≤_, _<_}
 use denote.Ref.{now}
 use mathlib.Core.List.{List}
+use Rattle.meaning.specs.Limits.{nonterminalsLimit, productionsLimit}
 use Rattle.outline.specs.declared.Sizes.{Sizes}
 use Rattle.outline.specs.Images.{image-of}
 use Rattle.outline.specs.Outline.{grammarIn, NumbersOf, Productions}
@@ -18,14 +19,14 @@ start c = c .before .before .before .before
 listed : (c : tie.After-analyse) → Productions (now (start c .args .table)) (now (start c .args .rows)) (now (start c .args .offsets)) (start c .args .sizes .productions)
 listed c = start c .pre .0
 
-few : (c : tie.After-analyse) → start c .args .sizes .productions ≤ 128
+few : (c : tie.After-analyse) → start c .args .sizes .productions ≤ productionsLimit
 few c = image-of (listed c .rowsOf) .few
 
 -- what the analysis says of the grammar
 analysed : (c : tie.After-analyse) → Analysed (grammarIn (now (start c .args .table))) (c .analyse .result .number) (c .analyse .result .index) (c .analyse .last .1 .1 .1 .1 .0)
 analysed c = let n = start c .pre .1 in c .analyse .ensures _ (listed c .rowsOf) (n .nonterminals) (n .start)
 
-start-small : {t rows offsets : List ℕ} {sizes : Sizes} → Productions t rows offsets (sizes .productions) → NumbersOf sizes (grammarIn t) → sizes .start < 48
+start-small : {t rows offsets : List ℕ} {sizes : Sizes} → Productions t rows offsets (sizes .productions) → NumbersOf sizes (grammarIn t) → sizes .start < nonterminalsLimit
 start-small x n = omega (arith, n .start, x .rowsOf .sound .start, x .rowsOf .narrow)
 
 cast-start : tie.Need-cast-start

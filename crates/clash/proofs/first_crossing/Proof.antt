@@ -2,6 +2,7 @@ use Prim.Native.Nat.{_≤_, _<_, _-_}
 use native.Mathlib.Omega.{arith}
 use borrow.Author.Needs.{needs}
 use mathlib.Core.Path.{sym, _∙_}
+use Rattle.meaning.specs.Limits.{nonterminalsLimit}
 use Rattle.outline.specs.Images.{leftAt, row-inside}
 use Rattle.clash.specs.Clashing.{Seen, seen-none, seen-next, Apart, apart-none, apart-next, crossed}
 use Rattle.clash.proofs.first_crossing.Statement.{statement}
@@ -14,7 +15,7 @@ abbrev μ-loop : tie.MeasureT-loop
 μ-loop rows sets count seen₀ k₀ seen k = count - k
 
 -- the left side is a nonterminal
-below : (c : tie.In-loop Inv-loop μ-loop) → leftAt (c .before .before .args .rows .now) (c .before .loop .k) < 48
+below : (c : tie.In-loop Inv-loop μ-loop) → leftAt (c .before .before .args .rows .now) (c .before .loop .k) < nonterminalsLimit
 below c = c .before .before .pre .lefts _ (c .loop-test .taken)
 
 loop-holds : tie.Need-loop-holds Inv-loop μ-loop

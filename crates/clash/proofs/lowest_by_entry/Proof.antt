@@ -3,6 +3,7 @@ use native.Mathlib.Omega.{arith}
 use borrow.Author.Needs.{needs}
 use mathlib.Core.Path.{_≡_, refl}
 use mathlib.Core.Bool.{true}
+use Rattle.meaning.specs.Limits.{nonterminalsLimit, productionsLimit}
 use Rattle.meaning.specs.Decide.{clashes}
 use Rattle.outline.specs.Images.{leftAt, image-of, row-inside}
 use Rattle.analysis.specs.Numbers.{Clear, clear-none, clear-more, found-here, found-none}
@@ -46,10 +47,10 @@ full : (c : tie.After-loop Inv-loop μ-loop Inv-pairs μ-pairs) → c .before .l
 full c = omega arith
 
 -- the left side is a nonterminal
-below : (c : tie.In-pairs Inv-loop μ-loop Inv-pairs μ-pairs) → leftAt (start (c .before) .args .rows .now) (c .before .pairs .later) < 48
+below : (c : tie.In-pairs Inv-loop μ-loop Inv-pairs μ-pairs) → leftAt (start (c .before) .args .rows .now) (c .before .pairs .later) < nonterminalsLimit
 below c = image-of (start (c .before) .pre .0 .productions .rowsOf) .lefts _ (c .pairs-test .taken)
 
-few : (c : tie.In-pairs Inv-loop μ-loop Inv-pairs μ-pairs) → start (c .before) .args .count ≤ 128
+few : (c : tie.In-pairs Inv-loop μ-loop Inv-pairs μ-pairs) → start (c .before) .args .count ≤ productionsLimit
 few c = image-of (start (c .before) .pre .0 .productions .rowsOf) .few
 
 -- what is kept with the later production

@@ -4,6 +4,7 @@ use mathlib.Core.Path.{_≡_, refl, sym, ap, _∙_}
 use mathlib.Core.List.{List}
 use lib.IntN.{ℤ}
 use lib.ListN.{length}
+use Rattle.meaning.specs.Limits.{attributesLimit}
 use Rattle.meaning.specs.Differences.{closed, closing}
 use Rattle.theory_differences.specs.Closing.{Small, room}
 use Rattle.clash_differences.proofs.Laws.{closing-turn, small-turn, room-low}
@@ -11,7 +12,7 @@ use Rattle.clash_cycles.proofs.close.Statement.{statement}
 use Rattle.clash_cycles.proofs.close.Tie as tie
 
 abbrev Inv-loop : tie.InvT-loop
-Inv-loop m₀ k₀ m k = (k ≤ 8) × (closed m₀ ≡ closing m k) × (length m ≡ 81) × Small (room k) m
+Inv-loop m₀ k₀ m k = (k ≤ attributesLimit) × (closed m₀ ≡ closing m k) × (length m ≡ 81) × Small (room k) m
 
 abbrev μ-loop : tie.MeasureT-loop
 μ-loop m₀ k₀ m k = k

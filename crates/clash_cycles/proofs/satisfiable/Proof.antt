@@ -1,6 +1,7 @@
 use native.Mathlib.Omega.{arith}
 use mathlib.Core.Path.{ap, _∙_}
 use borrow.Author.Needs.{needs}
+use Rattle.meaning.specs.Limits.{attributesLimit}
 use Rattle.meaning.specs.Differences.{noneNegative}
 use Rattle.theory_differences.specs.Closing.{small-more, room}
 use Rattle.theory_differences.specs.Decided.{limit}
@@ -12,7 +13,7 @@ slice-aggregate-close : tie.Need-slice-aggregate-close
 slice-aggregate-close c = search needs
 
 close-requires : tie.Need-close-requires
-close-requires c κs = (search needs, small-more limit (room 8) (c .before .args .m) (omega arith) (c .before .pre))
+close-requires c κs = (search needs, small-more limit (room attributesLimit) (c .before .args .m) (omega arith) (c .before .pre))
 
 slice-aggregate-none-negative : tie.Need-slice-aggregate-none-negative
 slice-aggregate-none-negative c = search needs

@@ -2,6 +2,7 @@ use native.Mathlib.Omega.{arith}
 use mathlib.Core.Path.{_≡_, refl}
 use borrow.Author.Needs.{needs}
 use lib.ListN.{length}
+use Rattle.meaning.specs.Limits.{attributesLimit}
 use Rattle.theory_differences.specs.Closing.{small-more, room, closed-small, closed-size}
 use Rattle.theory_differences.specs.Decided.{limit}
 use Rattle.clash_cycles.proofs.Placing.{zeros-near, solved, unsolved}
@@ -12,7 +13,7 @@ slice-aggregate-close : tie.Need-slice-aggregate-close
 slice-aggregate-close c = search needs
 
 close-requires : tie.Need-close-requires
-close-requires c κs = (search needs, small-more limit (room 8) (c .before .args .m) (omega arith) (c .before .pre))
+close-requires c κs = (search needs, small-more limit (room attributesLimit) (c .before .args .m) (omega arith) (c .before .pre))
 
 slice-aggregate-none-negative : tie.Need-slice-aggregate-none-negative
 slice-aggregate-none-negative c = search needs
@@ -32,7 +33,7 @@ place-requires c κs =
     let l = s .args .m in
     let e = c .before .before .before .before .before .before .close .ensures in
     let len : length l ≡ 81 = search needs in
-    (rw e (closed-size l len), refl, rw e (closed-small l len (small-more limit (room 8) l (omega arith) (s .pre))), zeros-near)
+    (rw e (closed-size l len), refl, rw e (closed-small l len (small-more limit (room attributesLimit) l (omega arith) (s .pre))), zeros-near)
 
 returns : tie.Need-returns
 returns c =

@@ -9,12 +9,12 @@ use mir.Val.{SFits, toZ, ofZ}
 use Rattle.meaning.specs.Differences.{at, bound}
 use Rattle.theory_base.specs.Absolute.{natAbs-add}
 use Rattle.clash_differences.proofs.Laws.{Filled, filled-more, filled-matrix}
-use Rattle.value.specs.Overflow.{fits64}
+use Rattle.value.specs.Overflow.{fits64, reach}
 use Rattle.value.proofs.Bits.{fits2, through2}
 use Rattle.clash_differences.proofs.start.Statement.{statement}
 use Rattle.clash_differences.proofs.start.Tie as tie
 
-sum-fits : (x y : ℤ) → natAbs x ≤ 1000000000000 → natAbs y ≤ 1000000000000 → SFits w64 (x +ℤ y)
+sum-fits : (x y : ℤ) → natAbs x ≤ reach → natAbs y ≤ reach → SFits w64 (x +ℤ y)
 sum-fits x y p q = fits64 (x +ℤ y) (omega (arith, natAbs-add x y))
 
 abbrev Inv-loop : tie.InvT-loop

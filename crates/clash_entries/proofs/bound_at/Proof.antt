@@ -3,7 +3,8 @@ use mathlib.Core.Path.{_∙_, ap}
 use borrow.Author.Needs.{sfits-of}
 use Rattle.meaning.specs.Table.{signed}
 use Rattle.value.specs.Overflow.{in-range-size}
-use Rattle.clash_conditions.proofs.Laws.{held, held-size}
+use Rattle.value.proofs.Bits.{held}
+use Rattle.clash_conditions.proofs.Laws.{held-size}
 use borrow.Author.Needs.{needs}
 use Rattle.clash_entries.proofs.bound_at.Statement.{statement}
 use Rattle.clash_entries.proofs.bound_at.Tie as tie

@@ -8,12 +8,14 @@ use borrow.Author.Tests.{not-true, not-false}
 use denote.Ref.{now}
 use lib.Dec.{T}
 use Rattle.meaning.specs.Grammar.{range, atmost}
-use Rattle.meaning.specs.Table.{byte, constantAt}
 use Rattle.meaning.specs.Differences.{lowered, constrained}
 use Rattle.theory_sets.specs.Intervals.{entry, entered, compared, among-is}
 use Rattle.clash_conditions.specs.EntryConditions.{entryHere, conditionHere, offsetHere}
 use Rattle.clash_conditions.proofs.Laws as L
 use borrow.Author.Needs.{needs}
+use Rattle.meaning.specs.Table.{byte, constantAt}
+use Rattle.meaning.specs.Limits.{attributesLimit}
+use Rattle.value.proofs.Bits.{held}
 use Rattle.clash_entries.proofs.constrain.Statement.{statement}
 use Rattle.clash_entries.proofs.constrain.Tie as tie
 
@@ -23,7 +25,7 @@ field c = c .before .before .before .args .field .now
 here : (c : tie.Else1) → entryHere (field c) ≡ true
 here c = sym (c .before .is-entry .ensures) ∙ not-false _ (c .if1 .left)
 
-proper : (c : tie.Else1) → T (entry 8 (conditionHere (field c)))
+proper : (c : tie.Else1) → T (entry attributesLimit (conditionHere (field c)))
 proper c = c .before .before .before .pre .1 (here c)
 
 -- the field is a range, or a comparison
@@ -62,7 +64,7 @@ between-requires c κs =
     let y = t2 .before .before in
     let e1 = y .before in
     let d = field e1 in
-    let k = entered 8 (byte d 5) (constantAt d 6) (constantAt d 10) (rw (is-range t2) at (proper e1)) in
+    let k = entered attributesLimit (byte d 5) (constantAt d 6) (constantAt d 10) (rw (is-range t2) at (proper e1)) in
     let b = c .before .bound-at in
     let b2 = c .bound-at2 in
     (e1 .before .before .before .pre .0, omega (arith, k .upto, y .byte-at .ensures .0), L.held-size {z = b .result} (sfits-of (b .ok)) (b .ensures .1), L.held-size {z = b2 .result} (sfits-of (b2 .ok)) (b2 .ensures .1))
@@ -78,8 +80,8 @@ returns-2 c =
     let e1 = y .before in
     let m = now (e1 .before .before .before .args .m) in
     let a = y .byte-at .ensures .0 in
-    let l = L.held (sfits-of (b .before .bound-at .ok)) (b .before .bound-at .ensures .0) in
-    let h = L.held (sfits-of (b .bound-at2 .ok)) (b .bound-at2 .ensures .0) in
+    let l = held (sfits-of (b .before .bound-at .ok)) (b .before .bound-at .ensures .0) in
+    let h = held (sfits-of (b .bound-at2 .ok)) (b .bound-at2 .ensures .0) in
     let e = c .before .between .ensures in
     (e .0 ∙ ((λ i. constrained (range (a i) (l i) (h i)) m) ∙ L.field-taken constrained _ m (here e1) _ (is-range t2)), e .1)
 
@@ -99,9 +101,9 @@ at-most-requires c κs =
     let y = e2 .before .before in
     let e1 = y .before in
     let d = field e1 in
-    let k = compared 8 (byte d 5) (byte d 7) (offsetHere d) (rw (is-compared e2) at (proper e1)) in
-    let p = among-is 8 (byte d 5) (k .first) in
-    let q = among-is 8 (byte d 7) (k .second) in
+    let k = compared attributesLimit (byte d 5) (byte d 7) (offsetHere d) (rw (is-compared e2) at (proper e1)) in
+    let p = among-is attributesLimit (byte d 5) (k .first) in
+    let q = among-is attributesLimit (byte d 7) (k .second) in
     (e1 .before .before .before .pre .0, omega (arith, p .1, y .byte-at .ensures .0), omega (arith, q .1, w .byte-at3 .ensures .0), L.held-size {z = c .offset .result} (sfits-of (c .offset .ok)) (c .offset .ensures .1))
 
 same-length-2 : tie.Need-same-length-2
@@ -117,7 +119,7 @@ returns-3 c =
     let m = now (e1 .before .before .before .args .m) in
     let a = y .byte-at .ensures .0 in
     let b = w .byte-at3 .ensures .0 in
-    let d = L.held (sfits-of (o .offset .ok)) (o .offset .ensures .0) in
+    let d = held (sfits-of (o .offset .ok)) (o .offset .ensures .0) in
     let e = c .before .at-most .ensures in
     (e .0 ∙ ((λ i. lowered m (a i) (b i) (d i)) ∙ L.field-taken constrained _ m (here e1) _ (is-compared e2)), e .1)
 

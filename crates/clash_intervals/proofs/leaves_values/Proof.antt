@@ -2,15 +2,16 @@ use Prim.Native.Nat.{ℕ, _≤_, _<_, _-_}
 use native.Mathlib.Omega.{arith}
 use native.Mathlib.Nat.{not-suc-le-zero}
 use mathlib.Core.Path.{_≡_}
+use Rattle.meaning.specs.Limits.{attributesLimit}
 use Rattle.clash_intervals.proofs.Laws.{Shared, shared-more, values-left, none-left}
 use Rattle.clash_intervals.proofs.leaves_values.Statement.{statement}
 use Rattle.clash_intervals.proofs.leaves_values.Tie as tie
 
 abbrev Inv-loop : tie.InvT-loop
-Inv-loop lows highs p q a₀ a = (a ≤ 8) × ((j : ℕ) → j < a → Shared lows highs p q j)
+Inv-loop lows highs p q a₀ a = (a ≤ attributesLimit) × ((j : ℕ) → j < a → Shared lows highs p q j)
 
 abbrev μ-loop : tie.MeasureT-loop
-μ-loop lows highs p q a₀ a = 8 - a
+μ-loop lows highs p q a₀ a = attributesLimit - a
 
 loop-holds : tie.Need-loop-holds Inv-loop μ-loop
 loop-holds c = (omega arith, λ j l. absurd (not-suc-le-zero l))
@@ -100,7 +101,7 @@ loop-again c =
     (omega arith, shared-more (args .lows .now) (args .highs .now) (args .p) (args .q) (lp .loop .a) (lp .loop .inv .1) (omega arith))
 
 returns-5 : tie.Need-returns-5 Inv-loop μ-loop
-returns-5 c = let e : c .before .loop .a ≡ 8 = omega arith in values-left _ _ _ _ (rw e at (c .before .loop .inv .1))
+returns-5 c = let e : c .before .loop .a ≡ attributesLimit = omega arith in values-left _ _ _ _ (rw e at (c .before .loop .inv .1))
 
 pub leaves-values-spec : {M : Type 1} → statement M
 leaves-values-spec =

@@ -4,8 +4,7 @@ use mir.Facts.{toZ-ofZ}
 use mathlib.Core.Path.{ap, _∙_}
 use Rattle.meaning.specs.Value.{inRange}
 use Rattle.theory_base.specs.Members.{T→true}
-use Rattle.theory_base.specs.Feeds.{four-ranged}
-use Rattle.theory_judge.specs.Biased.{four-of}
+use Rattle.theory_base.specs.Feeds.{four-ranged, four-of}
 use Rattle.judge_marks.proofs.widen.Statement.{statement}
 use Rattle.judge_marks.proofs.widen.Tie as tie
 

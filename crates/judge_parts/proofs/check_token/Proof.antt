@@ -1,11 +1,11 @@
 use denote.Ref.{now}
 use native.Mathlib.Omega.{arith}
+use mathlib.Core.Bool.{true≢false}
 use Rattle.judge_parts.specs.Laws as L
 use mathlib.Core.Path.{sym, ap, _∙_}
 use borrow.Author.Needs.{sfits-of}
 use mir.Facts.{toZ-ofZ}
 use Rattle.meaning.specs.Value.{inRange}
-use Rattle.theory_base.specs.Members.{apart}
 use borrow.Author.Needs.{needs}
 use Rattle.judge_parts.proofs.check_token.Statement.{statement}
 use Rattle.judge_parts.proofs.check_token.Tie as tie
@@ -39,7 +39,7 @@ returns-3 c =
 returns-4 : tie.Need-returns-4
 returns-4 c =
     let v = c .before .before in
-    absurd (apart (sym (ap inRange (toZ-ofZ {z = v .token-value .result} (sfits-of (v .token-value .ok))) ∙ v .token-value .ensures .1) ∙ (sym (c .before .in-range .ensures) ∙ c .if3 .left)))
+    absurd (true≢false (sym (ap inRange (toZ-ofZ {z = v .token-value .result} (sfits-of (v .token-value .ok))) ∙ v .token-value .ensures .1) ∙ (sym (c .before .in-range .ensures) ∙ c .if3 .left)))
 
 pub check-token-spec : {M : Type 1} → statement M
 check-token-spec =

@@ -1,5 +1,5 @@
 use borrow.Author.Needs.{needs, sfits-of}
-use Rattle.judge_numbers.proofs.Bits.{held}
+use Rattle.value.proofs.Bits.{held}
 use Rattle.judge_sheet.proofs.Answers as A
 use Rattle.judge_sheet.proofs.judge_root.Statement.{statement}
 use Rattle.judge_sheet.proofs.judge_root.Tie as tie

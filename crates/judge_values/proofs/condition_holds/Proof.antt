@@ -1,6 +1,7 @@
 use borrow.Author.Needs.{sfits-of}
-use Rattle.judge_numbers.proofs.Bits.{held, in-held}
+use Rattle.judge_numbers.proofs.Bits.{in-held}
 use Rattle.theory_judge.specs.Judged.{range-is, compare-is}
+use Rattle.value.proofs.Bits.{held}
 use borrow.Author.Needs.{needs}
 use Rattle.judge_values.proofs.condition_holds.Statement.{statement}
 use Rattle.judge_values.proofs.condition_holds.Tie as tie

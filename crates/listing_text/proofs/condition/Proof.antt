@@ -6,20 +6,20 @@ use borrow.Author.Needs.{needs}
 use Rattle.listing_text.proofs.condition.Statement.{statement}
 use Rattle.listing_text.proofs.condition.Tie as tie
 
-word-requires : tie.Need-word-requires
-word-requires c κs = search needs
+word-or-zero-requires : tie.Need-word-or-zero-requires
+word-or-zero-requires c κs = search needs
 
-add-word : tie.Need-add-word
-add-word c = search needs
+add-word-or-zero : tie.Need-add-word-or-zero
+add-word-or-zero c = search needs
 
-word-requires-2 : tie.Need-word-requires-2
-word-requires-2 c κs = search needs
+word-or-zero-requires-2 : tie.Need-word-or-zero-requires-2
+word-or-zero-requires-2 c κs = search needs
 
-add-word-2 : tie.Need-add-word-2
-add-word-2 c = search needs
+add-word-or-zero-2 : tie.Need-add-word-or-zero-2
+add-word-or-zero-2 c = search needs
 
-word-requires-3 : tie.Need-word-requires-3
-word-requires-3 c κs = search needs
+word-or-zero-requires-3 : tie.Need-word-or-zero-requires-3
+word-or-zero-requires-3 c κs = search needs
 
 condition-line-requires : tie.Need-condition-line-requires
 condition-line-requires c κs = search needs
@@ -39,9 +39,9 @@ same-length c = search needs
 returns : tie.Need-returns
 returns c =
     let a = c .before .before .before .before .before .before .before .before .before .before .before .before .before .before .args .c in
-    let first = c .before .before .before .before .before .before .before .before .before .before .before .word .ensures in
-    let second = c .before .before .before .before .before .before .before .before .before .word2 .ensures in
-    let third = c .before .before .before .before .before .before .before .word3 .ensures in
+    let first = c .before .before .before .before .before .before .before .before .before .before .before .word-or-zero .ensures in
+    let second = c .before .before .before .before .before .before .before .before .before .word-or-zero2 .ensures in
+    let third = c .before .before .before .before .before .before .before .word-or-zero3 .ensures in
     let line = c .before .before .before .before .before .condition-line .ensures in
     record {
       text = wrote-as (λ i. conditionLine (a .production) (a .passed) (conditionFrom (first i) (second i) (third i))) (line .0);
@@ -54,11 +54,11 @@ pub condition-spec : {M : Type 1} → statement M
 condition-spec =
     tie.close
     (tie.spec
-    word-requires
-    add-word
-    word-requires-2
-    add-word-2
-    word-requires-3
+    word-or-zero-requires
+    add-word-or-zero
+    word-or-zero-requires-2
+    add-word-or-zero-2
+    word-or-zero-requires-3
     condition-line-requires
     sub-go-on
     add-go-on

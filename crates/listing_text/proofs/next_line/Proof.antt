@@ -64,8 +64,8 @@ returns-3 c =
     let s = e .before .before .settle in
     line-at-step (a .program .now) (a .cursor) (s .result) (s .ensures .1) (omega arith) (step-condition (a .program .now) (s .result) (s .ensures .0) (inside e) (omega arith) (c .before .before .before .before .if3 .left)) (c .before .before .condition .ensures)
 
-word-requires : tie.Need-word-requires
-word-requires c κs = search needs
+word-or-zero-requires : tie.Need-word-or-zero-requires
+word-or-zero-requires c κs = search needs
 
 add-requires : tie.Need-add-requires
 add-requires c κs =
@@ -87,7 +87,7 @@ returns-4 c =
     let k = c .before .before .before .before .before in
     let o = k .before in
     let w = o .before in
-    let e = w .wide .ensures .0 ∙ w .before .word .ensures in
+    let e = w .index-of .ensures .0 ∙ w .before .word-or-zero .ensures in
     line-at-step ws (a .cursor) d (s .ensures .1) (omega (arith, start .pre)) (step-add ws d (s .ensures .0) (inside e1) (omega arith) (sym (k .operation .ensures ∙ ap headOperation e) ∙ c .before .before .before .before .if4 .taken))
     (emits-as (ap (addLine (d .production) (d .passed + 1)) (o .operand .ensures ∙ ap headOperand e)) (c .before .before .add .ensures))
 
@@ -112,12 +112,12 @@ returns-5 c =
     let k = c .before .before .before .before .before in
     let o = k .before in
     let w = o .before in
-    let e = w .wide .ensures .0 ∙ w .before .word .ensures in
+    let e = w .index-of .ensures .0 ∙ w .before .word-or-zero .ensures in
     line-at-step ws (a .cursor) d (s .ensures .1) (omega (arith, start .pre)) (step-remove ws d (s .ensures .0) (inside e1) (omega arith) (λ z. c .before .before .before .before .if4 .left (k .operation .ensures ∙ (ap headOperation e ∙ z))))
     (emits-as (ap (removeLine (d .production)) (o .operand .ensures ∙ ap headOperand e)) (c .before .before .remove .ensures))
 
-wide-requires : tie.Need-wide-requires
-wide-requires c κs = search needs
+index-of-requires : tie.Need-index-of-requires
+index-of-requires c κs = search needs
 
 operand-requires : tie.Need-operand-requires
 operand-requires c κs = search needs
@@ -141,8 +141,8 @@ next-line-spec =
     condition-requires
     same-length-2
     returns-3
-    word-requires
-    wide-requires
+    word-or-zero-requires
+    index-of-requires
     operand-requires
     cast-registers
     operation-requires

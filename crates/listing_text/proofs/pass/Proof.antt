@@ -7,8 +7,8 @@ use borrow.Author.Needs.{needs}
 use Rattle.listing_text.proofs.pass.Statement.{statement}
 use Rattle.listing_text.proofs.pass.Tie as tie
 
-word-requires : tie.Need-word-requires
-word-requires c κs = search needs
+word-or-zero-requires : tie.Need-word-or-zero-requires
+word-or-zero-requires c κs = search needs
 
 add-go-on : tie.Need-add-go-on
 add-go-on c = search needs
@@ -22,9 +22,9 @@ returns c =
     let k = o .before in
     let w = k .before in
     let a = w .before .before .before .args in
-    let here = w .wide .ensures .0 ∙ w .before .word .ensures in
+    let here = w .index-of .ensures .0 ∙ w .before .word-or-zero .ensures in
     c .go-on .ensures
-    ∙ (ap (λ n. goOn (a .c) (a .c .passed) true n (a .c .at + 1)) (o .operand .ensures) ∙ to-rules (a .program .now) (a .c) (w .wide .result) here (sym (k .operation .ensures) ∙ c .before .before .if1 .taken))
+    ∙ (ap (λ n. goOn (a .c) (a .c .passed) true n (a .c .at + 1)) (o .operand .ensures) ∙ to-rules (a .program .now) (a .c) (w .index-of .result) here (sym (k .operation .ensures) ∙ c .before .before .if1 .taken))
 
 add-go-on-2 : tie.Need-add-go-on-2
 add-go-on-2 c = search needs
@@ -38,9 +38,9 @@ returns-2 c =
     let k = o .before in
     let w = k .before in
     let a = w .before .before .before .args in
-    let here = w .wide .ensures .0 ∙ w .before .word .ensures in
+    let here = w .index-of .ensures .0 ∙ w .before .word-or-zero .ensures in
     c .go-on2 .ensures
-    ∙ (ap (λ n. goOn (a .c) (a .c .passed) false n (a .c .at + 1)) (o .operand .ensures) ∙ to-conditions (a .program .now) (a .c) (w .wide .result) here (λ z. c .before .before .before .if1 .left (k .operation .ensures ∙ z)) (sym (k .operation .ensures) ∙ c .before .before .if2 .taken))
+    ∙ (ap (λ n. goOn (a .c) (a .c .passed) false n (a .c .at + 1)) (o .operand .ensures) ∙ to-conditions (a .program .now) (a .c) (w .index-of .result) here (λ z. c .before .before .before .if1 .left (k .operation .ensures ∙ z)) (sym (k .operation .ensures) ∙ c .before .before .if2 .taken))
 
 add-go-on-3 : tie.Need-add-go-on-3
 add-go-on-3 c = search needs
@@ -57,12 +57,12 @@ returns-3 c =
     let k = o .before in
     let w = k .before in
     let a = w .before .before .before .args in
-    let here = w .wide .ensures .0 ∙ w .before .word .ensures in
+    let here = w .index-of .ensures .0 ∙ w .before .word-or-zero .ensures in
     c .go-on3 .ensures
-    ∙ past-symbol (a .program .now) (a .c) (w .wide .result) here (λ z. c .before .before .before .before .if1 .left (k .operation .ensures ∙ z)) (λ z. c .before .before .before .if2 .left (k .operation .ensures ∙ z))
+    ∙ past-symbol (a .program .now) (a .c) (w .index-of .result) here (λ z. c .before .before .before .before .if1 .left (k .operation .ensures ∙ z)) (λ z. c .before .before .before .if2 .left (k .operation .ensures ∙ z))
 
-wide-requires : tie.Need-wide-requires
-wide-requires c κs = search needs
+index-of-requires : tie.Need-index-of-requires
+index-of-requires c κs = search needs
 
 operation-requires : tie.Need-operation-requires
 operation-requires c κs = search needs
@@ -77,8 +77,8 @@ pub pass-spec : {M : Type 1} → statement M
 pass-spec =
     tie.close
     (tie.spec
-    word-requires
-    wide-requires
+    word-or-zero-requires
+    index-of-requires
     operation-requires
     operand-requires
     cast-items

@@ -2,26 +2,26 @@ use borrow.Author.Needs.{needs}
 use Rattle.listing_text.proofs.record_word.Statement.{statement}
 use Rattle.listing_text.proofs.record_word.Tie as tie
 
-word-requires : tie.Need-word-requires
-word-requires c κs = search needs
+word-or-zero-requires : tie.Need-word-or-zero-requires
+word-or-zero-requires c κs = search needs
 
-wide-requires : tie.Need-wide-requires
-wide-requires c κs = search needs
+index-of-requires : tie.Need-index-of-requires
+index-of-requires c κs = search needs
 
-wide-requires-2 : tie.Need-wide-requires-2
-wide-requires-2 c κs = search needs
+index-of-requires-2 : tie.Need-index-of-requires-2
+index-of-requires-2 c κs = search needs
 
-mul-word : tie.Need-mul-word
-mul-word c = search needs
+mul-word-or-zero : tie.Need-mul-word-or-zero
+mul-word-or-zero c = search needs
 
-add-word : tie.Need-add-word
-add-word c = search needs
+add-word-or-zero : tie.Need-add-word-or-zero
+add-word-or-zero c = search needs
 
-add-word-2 : tie.Need-add-word-2
-add-word-2 c = search needs
+add-word-or-zero-2 : tie.Need-add-word-or-zero-2
+add-word-or-zero-2 c = search needs
 
-word-requires-2 : tie.Need-word-requires-2
-word-requires-2 c κs = search needs
+word-or-zero-requires-2 : tie.Need-word-or-zero-requires-2
+word-or-zero-requires-2 c κs = search needs
 
 returns : tie.Need-returns
 returns c = cc
@@ -29,4 +29,4 @@ returns c = cc
 pub record-word-spec : {M : Type 1} → statement M
 record-word-spec =
     tie.close
-    (tie.spec word-requires wide-requires wide-requires-2 mul-word add-word add-word-2 word-requires-2 returns)
+    (tie.spec word-or-zero-requires index-of-requires index-of-requires-2 mul-word-or-zero add-word-or-zero add-word-or-zero-2 word-or-zero-requires-2 returns)

@@ -9,14 +9,14 @@ use Rattle.listing_text.proofs.rule.Tie as tie
 position-requires : tie.Need-position-requires
 position-requires c κs = search needs
 
-word-requires : tie.Need-word-requires
-word-requires c κs = search needs
+word-or-zero-requires : tie.Need-word-or-zero-requires
+word-or-zero-requires c κs = search needs
 
-add-word : tie.Need-add-word
-add-word c = search needs
+add-word-or-zero : tie.Need-add-word-or-zero
+add-word-or-zero c = search needs
 
-word-requires-2 : tie.Need-word-requires-2
-word-requires-2 c κs = search needs
+word-or-zero-requires-2 : tie.Need-word-or-zero-requires-2
+word-or-zero-requires-2 c κs = search needs
 
 rule-line-requires : tie.Need-rule-line-requires
 rule-line-requires c κs = search needs
@@ -37,8 +37,8 @@ returns : tie.Need-returns
 returns c =
     let a = c .before .before .before .before .before .before .before .before .before .before .before .before .before .args .c in
     let at = c .before .before .before .before .before .before .before .before .before .before .position .ensures in
-    let first = c .before .before .before .before .before .before .before .before .before .word .ensures in
-    let second = c .before .before .before .before .before .before .before .word2 .ensures in
+    let first = c .before .before .before .before .before .before .before .before .before .word-or-zero .ensures in
+    let second = c .before .before .before .before .before .before .before .word-or-zero2 .ensures in
     let line = c .before .before .before .before .before .rule-line .ensures in
     record {
       text = wrote-as (λ i. ruleLine (a .production) (at i) (ruleFrom (first i) (second i))) (line .0);
@@ -52,9 +52,9 @@ rule-spec =
     tie.close
     (tie.spec
     position-requires
-    word-requires
-    add-word
-    word-requires-2
+    word-or-zero-requires
+    add-word-or-zero
+    word-or-zero-requires-2
     rule-line-requires
     sub-go-on
     add-go-on

@@ -5,6 +5,7 @@ use mathlib.Core.Bool.{not}
 use lib.Dec.{eqb}
 use lib.ListN.{getD}
 use denote.Ref.{now}
+use Rattle.meaning.specs.Program.{nothingOperation}
 use Rattle.theory_program.specs.Parts.{headOperation}
 use Rattle.preview_expected.specs.Expected.{expectedFrom, expectedAt, from-terminal, from-nonterminal, from-other}
 use borrow.Author.Needs.{needs}
@@ -45,7 +46,7 @@ returns-3 : tie.Need-returns-3
 returns-3 c =
     let k = c .before .before in
     let a = start k .args in
-    ap (λ z. not (eqb z 6)) (k .operation .ensures) ∙ (from-other (k .before .word-at .result) (now (a .program)) (a .token) (λ z. c .before .if1 .left (k .operation .ensures ∙ z)) (λ z. c .if2 .left (k .operation .ensures ∙ z)) ∙ expected-is k)
+    ap (λ z. not (eqb z nothingOperation)) (k .operation .ensures) ∙ (from-other (k .before .word-at .result) (now (a .program)) (a .token) (λ z. c .before .if1 .left (k .operation .ensures ∙ z)) (λ z. c .if2 .left (k .operation .ensures ∙ z)) ∙ expected-is k)
 
 add-word-at : tie.Need-add-word-at
 add-word-at c = omega (arith, c .before .before .before .before .word-at .ensures .1, c .operand2 .ensures, start (c .before .before .before) .pre .small)

@@ -38,14 +38,14 @@ count-of-requires c κs = search needs
 cast-own : tie.Need-cast-own
 cast-own c = search needs
 
-number-at-requires : tie.Need-number-at-requires
-number-at-requires c κs = search needs
+word-or-zero-requires : tie.Need-word-or-zero-requires
+word-or-zero-requires c κs = search needs
 
 sub-result : tie.Need-sub-result
-sub-result c = S.own-below (c .before .before .before .before .before .before .before .before .pre .1 .1 .1 .1) _ (c .before .before .before .before .row-size .ensures .0) (omega arith) (last (c .before .before)) (c .before .count-of .ensures) (c .number-at .ensures)
+sub-result c = S.own-below (c .before .before .before .before .before .before .before .before .pre .1 .1 .1 .1) _ (c .before .before .before .before .row-size .ensures .0) (omega arith) (last (c .before .before)) (c .before .count-of .ensures) (c .word-or-zero .ensures)
 
 returns-2 : tie.Need-returns-2
-returns-2 c = λ fs ss ms ls x. S.sum-some x _ (c .before .before .before .before .row-size .ensures .0) (omega arith) (last (c .before .before)) (c .before .count-of .ensures) (c .number-at .ensures)
+returns-2 c = λ fs ss ms ls x. S.sum-some x _ (c .before .before .before .before .row-size .ensures .0) (omega arith) (last (c .before .before)) (c .before .count-of .ensures) (c .word-or-zero .ensures)
 
 pub whole-sum-spec : {M : Type 1} → statement M
 whole-sum-spec =
@@ -59,6 +59,6 @@ whole-sum-spec =
     cast-count-of
     count-of-requires
     cast-own
-    number-at-requires
+    word-or-zero-requires
     sub-result
     returns-2)

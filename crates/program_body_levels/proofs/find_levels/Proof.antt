@@ -4,6 +4,7 @@ use Prim.Native.Nat.{ℕ, _≤_, _-_, _*_}
 use mathlib.Core.List.{List, []}
 use lib.ListN.{length, length-set}
 use borrow.Author.Needs.{needs}
+use Rattle.meaning.specs.Limits.{positionsLimit}
 use Rattle.program_body_words.specs.OfProduction.{OfProduction, Carried}
 use Rattle.program_body_words.specs.Leveling as L
 use Rattle.program_body_words.specs.Waiting as W
@@ -12,7 +13,8 @@ use Rattle.program_body_levels.proofs.find_levels.Tie as tie
 
 abbrev Inv-loop : tie.InvT-loop
 Inv-loop row inherited synthesized carrying area₀ wait levels₀ left size sum₀ k₀ area levels sum k =
-    (k ≤ size) × (sum ≤ 256 * k) × (length levels ≡ 13) × ((fs : List ℕ) (x : OfProduction row fs inherited synthesized) (y : Carried (carrying .0) (x .grammar)) → L.LevelsGo x (carrying .0) y k sum levels) × ((fs : List ℕ) → W.RowGo row fs inherited synthesized (carrying .0) area₀ wait k sum area)
+    (k ≤ size) × (sum ≤ 256 * k) × (length levels ≡ positionsLimit)
+    × ((fs : List ℕ) (x : OfProduction row fs inherited synthesized) (y : Carried (carrying .0) (x .grammar)) → L.LevelsGo x (carrying .0) y k sum levels) × ((fs : List ℕ) → W.RowGo row fs inherited synthesized (carrying .0) area₀ wait k sum area)
 
 abbrev μ-loop : tie.MeasureT-loop
 μ-loop row inherited synthesized carrying area₀ wait levels₀ left size sum₀ k₀ area levels sum k = size - k

@@ -30,11 +30,11 @@ cast-all c = search needs
 add-all : tie.Need-add-all
 add-all c = search needs
 
-add-number-at : tie.Need-add-number-at
-add-number-at c = search needs
+add-word-or-zero : tie.Need-add-word-or-zero
+add-word-or-zero c = search needs
 
-number-at-requires : tie.Need-number-at-requires
-number-at-requires c κs = search needs
+word-or-zero-requires : tie.Need-word-or-zero-requires
+word-or-zero-requires c κs = search needs
 
 write-add-requires : tie.Need-write-add-requires
 write-add-requires c κs =
@@ -56,9 +56,9 @@ write-block-requires c κs =
     let inherited = synthesized .before in
     let symbol = inherited .before in
     let st = symbol .before .before .before .before .before .before .before .before .before in (
-      S.top-small (st .pre) (symbol .row-symbol .ensures .0) (inherited .count-of .ensures) (synthesized .count-of2 .ensures) (top .number-at .ensures),
+      S.top-small (st .pre) (symbol .row-symbol .ensures .0) (inherited .count-of .ensures) (synthesized .count-of2 .ensures) (top .word-or-zero .ensures),
       S.evaluate-fits (st .pre) (symbol .row-symbol .ensures .0)
-          (inherited .count-of .ensures) (synthesized .count-of2 .ensures) (top .number-at .ensures) (add .write-add .ensures),
+          (inherited .count-of .ensures) (synthesized .count-of2 .ensures) (top .word-or-zero .ensures) (add .write-add .ensures),
     )
 
 -- the expect stands inside the area
@@ -70,7 +70,7 @@ below c =
     let inherited = synthesized .before in
     let symbol = inherited .before in
     let st = symbol .before .before .before .before .before .before .before .before .before in
-    S.next-small (st .pre) (symbol .row-symbol .ensures .0) (inherited .count-of .ensures) (synthesized .count-of2 .ensures) (top .number-at .ensures) (add .write-add .ensures) (c .write-block .ensures)
+    S.next-small (st .pre) (symbol .row-symbol .ensures .0) (inherited .count-of .ensures) (synthesized .count-of2 .ensures) (top .word-or-zero .ensures) (add .write-add .ensures) (c .write-block .ensures)
 
 cast-area : tie.Need-cast-area
 cast-area c = omega (arith, below (c .before .before))
@@ -99,7 +99,7 @@ slice-write-area-2 c =
     let inherited = synthesized .before in
     let symbol = inherited .before in
     let st = symbol .before .before .before .before .before .before .before .before .before in
-    S.next-inside (st .pre) (symbol .row-symbol .ensures .0) (inherited .count-of .ensures) (synthesized .count-of2 .ensures) (top .number-at .ensures) (add .write-add .ensures) (rules .write-block .ensures)
+    S.next-inside (st .pre) (symbol .row-symbol .ensures .0) (inherited .count-of .ensures) (synthesized .count-of2 .ensures) (top .word-or-zero .ensures) (add .write-add .ensures) (rules .write-block .ensures)
 
 sub-rest : tie.Need-sub-rest
 sub-rest c =
@@ -108,7 +108,7 @@ sub-rest c =
     let inherited = synthesized .before in
     let symbol = inherited .before in
     let st = symbol .before .before .before .before .before .before .before .before .before in
-    S.own-below (st .pre) (symbol .row-symbol .ensures .0) (inherited .count-of .ensures) (synthesized .count-of2 .ensures) (top .number-at .ensures)
+    S.own-below (st .pre) (symbol .row-symbol .ensures .0) (inherited .count-of .ensures) (synthesized .count-of2 .ensures) (top .word-or-zero .ensures)
 
 add-test : tie.Need-add-test
 add-test c = omega (arith, below (c .before .before .before))
@@ -126,9 +126,9 @@ write-block-requires-2 c κs =
     let inherited = synthesized .before in
     let symbol = inherited .before in
     let st = symbol .before .before .before .before .before .before .before .before .before in (
-      omega (arith, S.top-small (st .pre) (symbol .row-symbol .ensures .0) (inherited .count-of .ensures) (synthesized .count-of2 .ensures) (top .number-at .ensures)),
+      omega (arith, S.top-small (st .pre) (symbol .row-symbol .ensures .0) (inherited .count-of .ensures) (synthesized .count-of2 .ensures) (top .word-or-zero .ensures)),
       S.test-fits (st .pre) (symbol .row-symbol .ensures .0)
-          (inherited .count-of .ensures) (synthesized .count-of2 .ensures) (top .number-at .ensures) (add .write-add .ensures) (rules .write-block .ensures) (head .expect-head .ensures),
+          (inherited .count-of .ensures) (synthesized .count-of2 .ensures) (top .word-or-zero .ensures) (add .write-add .ensures) (rules .write-block .ensures) (head .expect-head .ensures),
     )
 
 same-length : tie.Need-same-length
@@ -142,7 +142,7 @@ same-length c =
     let inherited = synthesized .before in
     let symbol = inherited .before in
     let st = symbol .before .before .before .before .before .before .before .before .before in
-    S.symbol-size (st .pre) (symbol .row-symbol .ensures .0) (inherited .count-of .ensures) (synthesized .count-of2 .ensures) (top .number-at .ensures) (add .write-add .ensures) (rules .write-block .ensures) (head .expect-head .ensures) (tests .write-block2 .ensures)
+    S.symbol-size (st .pre) (symbol .row-symbol .ensures .0) (inherited .count-of .ensures) (synthesized .count-of2 .ensures) (top .word-or-zero .ensures) (add .write-add .ensures) (rules .write-block .ensures) (head .expect-head .ensures) (tests .write-block2 .ensures)
 
 returns : tie.Need-returns
 returns c =
@@ -154,7 +154,7 @@ returns c =
     let synthesized = top .before in
     let inherited = synthesized .before in
     let symbol = inherited .before in
-    λ x. S.symbol-written x (symbol .row-symbol .ensures .0) (inherited .count-of .ensures) (synthesized .count-of2 .ensures) (top .number-at .ensures) (add .write-add .ensures) (rules .write-block .ensures) (head .expect-head .ensures) (tests .write-block2 .ensures)
+    λ x. S.symbol-written x (symbol .row-symbol .ensures .0) (inherited .count-of .ensures) (synthesized .count-of2 .ensures) (top .word-or-zero .ensures) (add .write-add .ensures) (rules .write-block .ensures) (head .expect-head .ensures) (tests .write-block2 .ensures)
 
 pub write-symbol-spec : {M : Type 1} → statement M
 write-symbol-spec =
@@ -168,8 +168,8 @@ write-symbol-spec =
     count-of-requires-2
     cast-all
     add-all
-    add-number-at
-    number-at-requires
+    add-word-or-zero
+    word-or-zero-requires
     write-add-requires
     add-write-block
     write-block-requires

@@ -3,11 +3,11 @@ use Prim.Native.Nat.{ℕ, _≤_, _<_, _+_, _*_, _-_}
 use mathlib.Core.Path.{_≡_}
 use mathlib.Core.List.{List}
 use lib.ListN.{length}
-use Rattle.meaning.specs.Limits.{areaLength}
 use Rattle.program_block_words.specs.Patch.{patch}
 use Rattle.program_words.specs.Directory.{zeros}
 use native.Mathlib.Omega.{arith}
 use borrow.Author.Needs.{needs}
+use Rattle.meaning.specs.Limits.{areaLength, nonterminalsLimit}
 use Rattle.program_words.specs.Sections as S
 use Rattle.program_directory.proofs.write_directory.Statement.{statement}
 use Rattle.program_directory.proofs.write_directory.Tie as tie
@@ -29,7 +29,7 @@ size : (l : tie.At-loop Inv-loop μ-loop) → length (l .loop .area) ≡ length 
 size l = let s = start l in S.directory-size (s .pre .1) (so-far l) (s .pre .0 .0) (s .pre .0 .1)
 
 -- the left side of the production at hand
-left-few : (c : tie.After-left-of Inv-loop μ-loop) → c .left-of .result < 48
+left-few : (c : tie.After-left-of Inv-loop μ-loop) → c .left-of .result < nonterminalsLimit
 left-few c = let l = c .before .before in S.left-few (start l .pre .0 .0 .rowsOf) _ _ (omega (arith, c .before .loop-test .taken, l .loop .inv .0)) (c .left-of .ensures)
 
 mul-end : tie.Need-mul-end Inv-loop μ-loop

@@ -3,7 +3,8 @@ use denote.Ref.{now}
 use Rattle.meaning.specs.PublicCalls.{stacksOf}
 use Rattle.meaning_ranking.specs.RankCall.{unranked, rankEffect}
 use Rattle.prepare.proofs.Cases.{short-made, refused-made, written-made}
-use Rattle.rank.specs.Listing.{rank-37, rank-30, rank-refused, standing-readable, standing-ranked}
+use Rattle.prepare.specs.Beginning.{standing-readable}
+use Rattle.rank.specs.Listing.{rank-37, rank-30, rank-refused, standing-ranked}
 use borrow.Author.Needs.{needs}
 use Rattle.rank.proofs.rank.Statement.{statement}
 use Rattle.rank.proofs.rank.Tie as tie

@@ -6,7 +6,7 @@ use borrow.Author.Tests.{not-true, not-false}
 use denote.Ref.{now}
 use lib.Dec.{eqb}
 use lib.ListN.{length, getD, drop}
-use Rattle.meaning.specs.Grammar.{Grammar, nonterminal}
+use Rattle.meaning.specs.Grammar.{Grammar, nonterminal, nonterminalBase}
 use Rattle.theory_program.specs.Parts.{headOperand, waitLeft, waitSymbol}
 use Rattle.run_fit.specs.HasProgram.{HasProgram, waitAt, header-inside}
 use Rattle.run_fit.proofs.Places.{stands, follow, follow-start, follow-not, follow-turn, follow-alike, alike-from, follow-past, follow-none, follow-end}
@@ -39,7 +39,7 @@ loop-holds c =
     let a = s .args in (
       s .pre .0,
       (λ l. omega arith),
-      λ g h. follow-start h (drop 1 (now (a .places))) (now (a .registers)) (a .at) ∙ ap (λ n. follow g ((128 + n) * 2097152) (drop 1 (now (a .places))) (now (a .registers)) (a .at)) (sym first),
+      λ g h. follow-start h (drop 1 (now (a .places))) (now (a .registers)) (a .at) ∙ ap (λ n. follow g ((nonterminalBase + n) * 2097152) (drop 1 (now (a .places))) (now (a .registers)) (a .at)) (sym first),
     )
 
 word-at-requires-2 : tie.Need-word-at-requires-2 Inv-loop μ-loop
@@ -67,7 +67,7 @@ returns c =
     let m = w .before .before .before .before in
     let l = m .loop in
     let a = m .before .before .before .before .before .before .args in
-    let off = ap (λ v. eqb (128 + waitLeft v) (waitSymbol (l .word))) (sym (word-is w)) ∙ (sym (c .before .stands-on .ensures) ∙ not-true (c .before .stands-on .result) (c .if2 .taken)) in
+    let off = ap (λ v. eqb (nonterminalBase + waitLeft v) (waitSymbol (l .word))) (sym (word-is w)) ∙ (sym (c .before .stands-on .ensures) ∙ not-true (c .before .stands-on .result) (c .if2 .taken)) in
     λ g h. sym (l .inv .2 g h ∙ follow-not h (now (a .registers)) (now (a .places)) (l .i) (l .reached) (l .word) (w .before .before .before .loop-test .taken) off)
 
 past-place-requires : tie.Need-past-place-requires Inv-loop μ-loop
@@ -84,7 +84,7 @@ turned c =
     let l = m .loop in
     let a = m .before .before .before .before .before .before .args in
     let e = word-is w in
-    let on = ap (λ v. eqb (128 + waitLeft v) (waitSymbol (l .word))) (sym e) ∙ (sym (c .before .before .stands-on .ensures) ∙ not-false (c .before .before .stands-on .result) (c .before .if2 .left)) in
+    let on = ap (λ v. eqb (nonterminalBase + waitLeft v) (waitSymbol (l .word))) (sym e) ∙ (sym (c .before .before .stands-on .ensures) ∙ not-false (c .before .before .stands-on .result) (c .before .if2 .left)) in
     let p = rw e at (c .past-place .ensures) in
     λ g h. l .inv .2 g h
     ∙ (follow-turn h (now (a .registers)) (now (a .places)) (l .i) (l .reached) (l .word) (w .before .before .before .loop-test .taken) on p
@@ -121,7 +121,7 @@ returns-3 c =
     let l = m .loop in
     let a = m .before .before .before .before .before .before .args in
     let e = same-word k ∙ ap (waitAt (now (a .program))) (k .before .word-at2 .ensures .0) in
-    let off = ap (λ v. eqb (128 + waitLeft v) (waitSymbol (l .word))) (sym e) ∙ (sym (c .before .stands-on2 .ensures) ∙ not-true (c .before .stands-on2 .result) (c .if4 .taken)) in
+    let off = ap (λ v. eqb (nonterminalBase + waitLeft v) (waitSymbol (l .word))) (sym e) ∙ (sym (c .before .stands-on2 .ensures) ∙ not-true (c .before .stands-on2 .result) (c .if4 .taken)) in
     λ g h. sym (l .inv .2 g h ∙ follow-not h (now (a .registers)) (now (a .places)) (l .i) (l .reached) (l .word) (k .before .before .loop-test .taken) off)
 
 add-alike : tie.Need-add-alike Inv-loop μ-loop

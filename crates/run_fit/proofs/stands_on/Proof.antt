@@ -2,11 +2,12 @@ use Prim.Native.Nat.{_+_}
 use mathlib.Core.Path.{ap₂}
 use borrow.Author.Needs.{needs}
 use lib.Dec.{eqb}
+use Rattle.meaning.specs.Grammar.{nonterminalBase}
 use Rattle.run_fit.proofs.stands_on.Statement.{statement}
 use Rattle.run_fit.proofs.stands_on.Tie as tie
 
 returns : tie.Need-returns
-returns c = ap₂ (λ left symbol. eqb (128 + left) symbol) (c .before .wait-left .ensures) (c .wait-symbol .ensures)
+returns c = ap₂ (λ left symbol. eqb (nonterminalBase + left) symbol) (c .before .wait-left .ensures) (c .wait-symbol .ensures)
 
 wait-left-requires : tie.Need-wait-left-requires
 wait-left-requires c κs = search needs

@@ -4,6 +4,7 @@ use mathlib.Core.Path.{_≡_, sym, ap, _∙_}
 use borrow.Author.Needs.{needs}
 use denote.Ref.{now}
 use lib.ListN.{getD, length}
+use Rattle.meaning.specs.Limits.{symbolsLimit}
 use Rattle.meaning.specs.Grammar.{placeProduction, placePassed}
 use Rattle.run_fit.specs.HasProgram.{wordAddress, word-inside, wait-unlisted, wait-passed, wait-word}
 use Rattle.run_fit.proofs.wait_word.Statement.{statement}
@@ -37,13 +38,13 @@ module _ (c : tie.After-struct-known2) where
   listed : placeProduction (s .args .place) < getD (now (s .args .program)) 6 0
   listed = omega (arith, s .pre .1 .productions, p .production .ensures, k .before .if1 .left)
 
-  few : placePassed (s .args .place) < 12
+  few : placePassed (s .args .place) < symbolsLimit
   few = omega (arith, k .passed .ensures, c .before .if2 .left)
 
   inside : wordAddress (now (s .args .program)) (s .args .place) < length (now (s .args .program))
   inside = word-inside (s .pre .0 .shown) (s .args .place) listed few
 
-  address : s .args .rows .begin + 12 * p .production .result + k .passed .result ≡ wordAddress (now (s .args .program)) (s .args .place)
+  address : s .args .rows .begin + symbolsLimit * p .production .result + k .passed .result ≡ wordAddress (now (s .args .program)) (s .args .place)
   address = omega (arith, s .pre .1 .address, p .production .ensures, k .passed .ensures)
 
 add-word-at : tie.Need-add-word-at

@@ -35,7 +35,7 @@ abbrev first : tie.At-loop Inv-loop μ-loop → ℕ
 first l = start l .args .run .tokens - start l .args .limits .from
 
 follows : (l : tie.At-loop Inv-loop μ-loop) → (let a = start l .args in FollowBy (a .limits .bound) (a .limits .most) (now (a .program)) (now (a .kinds)) (first l) (a .run) (count l))
-follows l = l .loop .inv .2 (start l .args .run) refl (l .before .before .before .within .ensures)
+follows l = l .loop .inv .2 (start l .args .run) refl (l .before .before .before .end-within-limits .ensures)
 
 -- a configuration is held after them
 running : (l : tie.At-loop Inv-loop μ-loop) → (let s = start l in let a = s .args in Running (now (a .program)) (s .pre .0 .1 .0) (passedBy (now (a .program)) (a .run) (count l) (s .pre .0 .0)) (afterReads (a .run) (count l)))
@@ -46,11 +46,11 @@ running l =
 -- the token at hand is within the limits
 here : (l : tie.In-loop Inv-loop μ-loop) → (let s = start (l .before) in let a = s .args in let n = count (l .before) in (first (l .before) + n < length (now (a .kinds))) × (a .run .tokens + n ≤ a .limits .most))
 here l =
-    let w = l .before .before .before .before .within .ensures (count (l .before)) (omega (arith, l .before .loop .inv .1, l .loop-test .taken)) in
+    let w = l .before .before .before .before .end-within-limits .ensures (count (l .before)) (omega (arith, l .before .loop .inv .1, l .loop-test .taken)) in
     (w .0, w .1)
 
-within-requires : tie.Need-within-requires Inv-loop μ-loop
-within-requires c κs =
+end-within-limits-requires : tie.Need-end-within-limits-requires Inv-loop μ-loop
+end-within-limits-requires c κs =
     let p = c .before .before .pre in
     let k = bounds (p .0 .1 .2 .running .held) in
     (p .1, k .tokens, k .moves)
@@ -70,8 +70,8 @@ cast-look c = omega (arith, c .shared-slice-known3 .given (c .before .before .lo
 returns : tie.Need-returns Inv-loop μ-loop
 returns c = let l = c .before .before .before .before in (l .loop .inv .0, follows l)
 
-bare-requires : tie.Need-bare-requires Inv-loop μ-loop
-bare-requires c κs =
+is-plain-read-requires : tie.Need-is-plain-read-requires Inv-loop μ-loop
+is-plain-read-requires c κs =
     let l = c .before .before .before .before in
     let h = running l .held in
     (omega (arith, bounds h .inside, l .loop .inv .0), omega (arith, stands-within (segment-at (h .begins))), omega (arith, c .if1 .left, start l .pre .0 .1 .2 .few))
@@ -106,7 +106,7 @@ loop-again c =
           let at : l .loop .at ≡ run .at + n = omega (arith, v .0, e) in
           let low : getD us (first l + n) 0 < a .limits .bound = omega (arith, ap (λ x. getD us x 0) is, c .before .before .if1 .left) in
           let bare : barely (now (a .program)) (run .at + n) (getD us (first l + n) 0) ≡ true =
-          sym (ap (λ x. barely (now (a .program)) x (getD us (first l + n) 0)) at) ∙ (sym (ap (λ x. barely (now (a .program)) (l .loop .at) (getD us x 0)) is) ∙ (sym (c .before .bare .ensures) ∙ not-false (c .before .bare .result) (c .if2 .left))) in
+          sym (ap (λ x. barely (now (a .program)) x (getD us (first l + n) 0)) at) ∙ (sym (ap (λ x. barely (now (a .program)) (l .loop .at) (getD us x 0)) is) ∙ (sym (c .before .is-plain-read .ensures) ∙ not-false (c .before .is-plain-read .result) (c .if2 .left))) in
           subst (FollowBy (a .limits .bound) (a .limits .most) (now (a .program)) us (first l) run) (omega (arith, v .0))
           (follow-more (a .limits .bound) (a .limits .most) (now (a .program)) us (first l) run n (judged-taken (a .limits .bound) (a .limits .most) us (first l + n) (run .tokens + n) (k .0) (k .1) low) (omega (arith, low, start l .pre .0 .1 .2 .few)) bare (k .2) (v .2 run e w)),
     )
@@ -120,13 +120,13 @@ behind-reads-spec =
     (tie.spec
     Inv-loop
     μ-loop
-    within-requires
+    end-within-limits-requires
     sub-i
     loop-holds
     shared-slice-read-look
     cast-look
     returns
-    bare-requires
+    is-plain-read-requires
     returns-2
     add-i
     add-at

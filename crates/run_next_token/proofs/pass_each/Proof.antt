@@ -6,7 +6,8 @@ use lib.ListN.{getD, set}
 use denote.Ref.{now}
 use borrow.Author.Needs.{needs}
 use borrow.Author.Tests.{eq-eqb, ne-eqb}
-use Rattle.theory_program.specs.Parts.{headOperation, testOperation}
+use Rattle.meaning.specs.Program.{testOperation}
+use Rattle.theory_program.specs.Parts.{headOperation}
 use Rattle.run_moves.specs.Moves.{countIf}
 use Rattle.run_next_token.specs.Following.{countBy, count-more}
 use Rattle.run_next_token.proofs.pass_each.Statement.{statement}

@@ -10,11 +10,11 @@ use mir.Facts.{toZ-ofZ}
 use borrow.Author.Needs.{sfits-of}
 use Rattle.theory_program.specs.Addresses.{segment-at}
 use Rattle.theory_program.specs.WordsStand.{stands-within}
-use Rattle.run_next_token.specs.Coming.{four-of}
 use Rattle.run_looking.specs.Judging.{judgedOf, taken-of}
 use Rattle.run_moves.specs.declared.Run.{Run}
 use Rattle.run_moves.specs.declared.Step.{Step}
 use Rattle.run_moves.specs.declared.Step.the-variants.{Moved, Blocked}
+use Rattle.theory_base.specs.Feeds.{four-of}
 use Rattle.run_next_token.specs.Operations.{Running}
 use Rattle.run_next_token.specs.Turns.{Turned, turned-judged, turned-read}
 use Rattle.run_next_token.specs.Reading.{turned-after, turned-then}
@@ -106,8 +106,8 @@ enum-known-n c = search needs
 enum-known-next : tie.Need-enum-known-next
 enum-known-next c = search needs
 
-reads-requires : tie.Need-reads-requires
-reads-requires c κs =
+read-plain-tokens-requires : tie.Need-read-plain-tokens-requires
+read-plain-tokens-requires c κs =
     let n = c .before .before .next .given in
     let r = c .before .before .before .before .before .before .before in
     let s = start r in
@@ -140,7 +140,7 @@ returns-3 c =
     let s = start r in
     let k = after r (n .0 .0) (n .1) in
     let same : n .0 .0 .tokens - s .args .limits .from ≡ index s + (n .0 .0 .tokens - s .args .run .tokens) = omega (arith, k .1, s .pre .3) in
-    turned-then same (m .reads .ensures (now (s .args .values)) (r .read .last .0) (s .pre .0 .even)) (made r (Moved (n .0 .0)) (n .1))
+    turned-then same (m .read-plain-tokens .ensures (now (s .args .values)) (r .read .last .0) (s .pre .0 .even)) (made r (Moved (n .0 .0)) (n .1))
 
 pub read-next-spec : {M : Type 1} → statement M
 read-next-spec =
@@ -157,7 +157,7 @@ read-next-spec =
     read-requires
     enum-known-n
     enum-known-next
-    reads-requires
+    read-plain-tokens-requires
     same-length
     same-length-2
     returns-2

@@ -12,10 +12,10 @@ use Rattle.run_next_token.proofs.read_on.Tie as tie
 
 -- the read is at hand
 at-hand : (c : tie.Then1) → (let a = c .before .before .before .before .args in plainly (now (a .program)) (a .run) (a .look) ≡ true)
-at-hand c = sym (c .before .plain .ensures) ∙ c .if1 .taken
+at-hand c = sym (c .before .can-read-plain .ensures) ∙ c .if1 .taken
 
-plain-requires : tie.Need-plain-requires
-plain-requires c κs =
+can-read-plain-requires : tie.Need-can-read-plain-requires
+can-read-plain-requires c κs =
     let p = c .before .before .pre in
     let h = p .0 .1 .held in
     (bounds h .inside, omega (arith, stands-within (segment-at (h .begins))), p .1)
@@ -44,4 +44,4 @@ returns-2 c = λ bound most us vs rs i even j e. reaches-none
 
 pub read-on-spec : {M : Type 1} → statement M
 read-on-spec =
-    tie.close (tie.spec plain-requires read-plain-requires same-length returns returns-2)
+    tie.close (tie.spec can-read-plain-requires read-plain-requires same-length returns returns-2)

@@ -4,6 +4,7 @@ use mathlib.Core.Path.{_≡_, refl, sym, ap, _∙_, subst₂}
 use lib.ListN.{length, getD}
 use denote.Ref.{now}
 use borrow.Author.Needs.{needs}
+use Rattle.meaning.specs.Limits.{productionsLimit}
 use Rattle.meaning.specs.Value.{mark}
 use Rattle.meaning.specs.Machine.{next}
 use Rattle.theory_program.specs.Parts.{headOperand, directoryNumber}
@@ -24,7 +25,7 @@ some-first : (s : tie.Start) → (let a = s .args in directoryNumber (getD (now 
 some-first s e = s .pre .1 .1 (s .pre .1 .0 ∙ e)
 
 -- the production found is listed
-small : (c : tie.Else1) → c .before .find .result ≤ 128
+small : (c : tie.Else1) → c .before .find .result ≤ productionsLimit
 small c =
     let f = c .before in
     let b = start f in

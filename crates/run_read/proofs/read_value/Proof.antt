@@ -19,11 +19,11 @@ mul-value c = search needs
 slice-set-from-value : tie.Need-slice-set-from-value
 slice-set-from-value c = search needs
 
-add-pass : tie.Need-add-pass
-add-pass c = let b = c .before .before .before .before .before .pre .0 in omega (arith, read-inside (b .held) (b .limit) (b .operation))
+add-pass-symbol : tie.Need-add-pass-symbol
+add-pass-symbol c = let b = c .before .before .before .before .before .pre .0 in omega (arith, read-inside (b .held) (b .limit) (b .operation))
 
-pass-requires : tie.Need-pass-requires
-pass-requires c κs =
+pass-symbol-requires : tie.Need-pass-symbol-requires
+pass-symbol-requires c κs =
     let b = c .before .before .before .before .before .pre .0 in
     let k = bounds (b .held) in
     ((k .somePlace, k .places, top-small (b .held)), read-inside (b .held) (b .limit) (b .operation))
@@ -50,7 +50,7 @@ returns-2 : tie.Need-returns-2
 returns-2 c = λ g lent d h ok.
     let s = c .before .before .before .before .before .before .before .before .before .before .before in
     let b = s .pre .0 in
-    rw (c .before .counted .ensures, c .before .before .before .before .before .pass .ensures, toZ-ofZ (s .fits .value)) (made-value h _ (s .args .value) ok (b .limit) (b .operation) refl (s .pre .1) (c .before .before .before .before .before .before .before .before .if1 .left))
+    rw (c .before .counted .ensures, c .before .before .before .before .before .pass-symbol .ensures, toZ-ofZ (s .fits .value)) (made-value h _ (s .args .value) ok (b .limit) (b .operation) refl (s .pre .1) (c .before .before .before .before .before .before .before .before .if1 .left))
 
 pub read-value-spec : {M : Type 1} → statement M
-read-value-spec = tie.close (tie.spec returns mul-value slice-set-from-value add-pass pass-requires add-counted counted-requires add-after add-after-2 same-length same-length-2 returns-2)
+read-value-spec = tie.close (tie.spec returns mul-value slice-set-from-value add-pass-symbol pass-symbol-requires add-counted counted-requires add-after add-after-2 same-length same-length-2 returns-2)

@@ -20,7 +20,7 @@ use Rattle.run_registers.specs.Stack.{stack, stack-length}
 use Rattle.run_registers.specs.Read.{Valued}
 use Rattle.run_registers.specs.Operand.{first-read, second-read, range-holds, atmost-holds, atmost-plus-holds}
 use Rattle.theory_base.specs.Members.{T→true}
-use Rattle.run_registers.proofs.Bits.{held}
+use Rattle.value.proofs.Bits.{held}
 use Rattle.run_register_rules.proofs.condition.Statement.{statement}
 use Rattle.run_register_rules.proofs.condition.Tie as tie
 

@@ -12,13 +12,12 @@ use mir.Val.{toZ, ofZ}
 use Rattle.meaning.specs.Machine.{readRegister}
 use Rattle.meaning.specs.Value.{inRange}
 use Rattle.value.specs.Ranged.{ranged, ranged-in}
-use Rattle.value.proofs.Bits.{answer}
+use Rattle.value.proofs.Bits.{answer, held}
 use Rattle.theory_base.specs.Members.{T→true}
 use Rattle.theory_program.specs.Parts.{ruleFunction, ruleFirst, ruleSecond}
 use Rattle.run_registers.specs.Stack.{stack, stack-length}
 use Rattle.run_registers.specs.Read.{Valued}
 use Rattle.run_registers.specs.Operand.{Applies, is-const, is-copy, is-sum, is-addc}
-use Rattle.run_registers.proofs.Bits.{held}
 use Rattle.run_register_rules.specs.Common.{common-last}
 use Rattle.run_register_rules.proofs.direct.Statement.{statement}
 use Rattle.run_register_rules.proofs.direct.Tie as tie

@@ -8,8 +8,8 @@ use mir.Syntax.{w64}
 use mir.Val.{toZ, ofZ}
 use Rattle.meaning.specs.Calls.{isMark}
 use Rattle.run_registers.specs.Stack.{stack, stack-length}
-use Rattle.run_registers.proofs.Bits.{held}
 use Rattle.run_registers.proofs.Loops.{rules-inside}
+use Rattle.value.proofs.Bits.{held}
 use Rattle.run_register_rules.proofs.Straight.{Straight, straight-start, inside-now, straight-applies, straight-target, straight-turn, straight-stop, straight-end}
 use Rattle.run_register_rules.proofs.evaluate.Statement.{statement}
 use Rattle.run_register_rules.proofs.evaluate.Tie as tie

@@ -10,8 +10,8 @@ use Rattle.meaning.specs.Calls.{isMark}
 use Rattle.theory_program.specs.Parts.{ruleTarget}
 use Rattle.run_registers.specs.Stack.{stack, stack-length}
 use Rattle.run_registers.specs.Read.{SelectorStands}
-use Rattle.run_registers.proofs.Bits.{held}
 use Rattle.run_registers.proofs.Loops.{rules-inside, applies-turn, target-turn}
+use Rattle.value.proofs.Bits.{held}
 use Rattle.run_register_rules.proofs.Straight.{one-written, one-kept}
 use Rattle.run_register_rules.proofs.evaluate_one.Statement.{statement}
 use Rattle.run_register_rules.proofs.evaluate_one.Tie as tie

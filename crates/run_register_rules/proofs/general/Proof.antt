@@ -5,10 +5,9 @@ use denote.Ref.{now}
 use lib.IntN.{ℤ}
 use Rattle.meaning.specs.Table.{signed}
 use Rattle.value.specs.Computed.{computed}
-use Rattle.value.proofs.Bits.{answer}
+use Rattle.value.proofs.Bits.{answer, held}
 use Rattle.run_registers.specs.Stack.{stack}
 use Rattle.run_registers.specs.Operand.{operandOf, Operation, operation}
-use Rattle.run_registers.proofs.Bits.{held}
 use Rattle.run_register_rules.proofs.general.Statement.{statement}
 use Rattle.run_register_rules.proofs.general.Tie as tie
 

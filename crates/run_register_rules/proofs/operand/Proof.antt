@@ -11,7 +11,7 @@ use Rattle.theory_base.specs.Members.{T→true}
 use Rattle.run_registers.specs.Stack.{stack, stack-length}
 use Rattle.run_registers.specs.Read.{Valued}
 use Rattle.run_registers.specs.Operand.{fetched-some, operand-some, operand-none}
-use Rattle.run_registers.proofs.Bits.{held}
+use Rattle.value.proofs.Bits.{held}
 use Rattle.run_register_rules.proofs.operand.Statement.{statement}
 use Rattle.run_register_rules.proofs.operand.Tie as tie
 

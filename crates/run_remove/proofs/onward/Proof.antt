@@ -3,7 +3,7 @@ use mathlib.Core.Path.{subst}
 use lib.ListN.{getD}
 use denote.Ref.{now}
 use borrow.Author.Needs.{needs}
-use Rattle.run_moves.specs.Notes.{Noted}
+use Rattle.run_moves.specs.Returns.{ReturnsTo}
 use Rattle.run_remove.proofs.onward.Statement.{statement}
 use Rattle.run_remove.proofs.onward.Tie as tie
 
@@ -33,13 +33,13 @@ returns c =
     let t = c .before in
     let u = t .before .before in
     let s = u .before .before .before in
-    (subst (λ q. Noted (now (s .args .program)) q (getD (now (s .args .notes)) (2 * (s .args .height % 16) + 1) 0)) (t .if2 .taken) (s .pre .1 (s .args .height % 16) (u .if1 .taken)), s .pre .1)
+    (subst (λ q. ReturnsTo (now (s .args .program)) q (getD (now (s .args .returns)) (2 * (s .args .height % 16) + 1) 0)) (t .if2 .taken) (s .pre .1 (s .args .height % 16) (u .if1 .taken)), s .pre .1)
 
 resume-requires : tie.Need-resume-requires
 resume-requires c κs = search needs
 
-note-requires : tie.Need-note-requires
-note-requires c κs = tt
+keep-return-requires : tie.Need-keep-return-requires
+keep-return-requires c κs = tt
 
 same-length : tie.Need-same-length
 same-length c = search needs
@@ -49,7 +49,7 @@ returns-2 c =
     let n = c .before .before in
     let r = n .before .before in
     let s = r .before .before .before .before in
-    (r .resume .ensures, n .note .ensures (now (s .args .program)) (s .pre .1) (r .resume .ensures))
+    (r .resume .ensures, n .keep-return .ensures (now (s .args .program)) (s .pre .1) (r .resume .ensures))
 
 pub onward-spec : {M : Type 1} → statement M
 onward-spec =
@@ -64,6 +64,6 @@ onward-spec =
     slice-read-result
     returns
     resume-requires
-    note-requires
+    keep-return-requires
     same-length
     returns-2)

@@ -55,8 +55,8 @@ mul-places c = let b = c .before .before .before .before .before .before .before
 slice-write-places : tie.Need-slice-write-places
 slice-write-places c = let b = c .before .before .before .before .before .before .before .before .before .before .before .before .before .before .before .pre .0 in omega (arith, bounds (b .held) .places, bounds (b .held) .somePlace)
 
-pass-requires : tie.Need-pass-requires
-pass-requires c κs =
+pass-symbol-requires : tie.Need-pass-symbol-requires
+pass-symbol-requires c κs =
     let s = c .before .before .before .before .before .before .before .before .before .before .before .before .before .before .before .before in
     let b = s .pre .0 in
     let r = removal (b .held) (b .operation) in
@@ -76,14 +76,14 @@ same-length c = search needs
 same-length-2 : tie.Need-same-length-2
 same-length-2 c =
     let s = c .before .before .before .before .before .before .before .before .before .before .before .before .before .before .before .before .before .before .before .before .before in
-    c .before .before .before .before .pass .kept .0 ∙ length-set (now (s .args .places)) (s .args .run .places - 1) 0
+    c .before .before .before .before .pass-symbol .kept .0 ∙ length-set (now (s .args .places)) (s .args .run .places - 1) 0
 
 same-length-3 : tie.Need-same-length-3
 same-length-3 c = search needs
 
 returns : tie.Need-returns
 returns c =
-    let pass = c .before .before .before .before .pass in
+    let pass = c .before .before .before .before .pass-symbol in
     let onward = c .before .before .before .before .before .before .before .before .onward in
     let word-at2 = c .before .before .before .before .before .before .before .before .before .before .word-at2 in
     let remove = c .before .before .before .before .before .before .before .before .before .before .before .before .before .before .remove in
@@ -109,7 +109,7 @@ remove-spec =
     add-at
     mul-places
     slice-write-places
-    pass-requires
+    pass-symbol-requires
     counted-requires
     sub-next
     same-length

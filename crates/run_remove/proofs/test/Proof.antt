@@ -23,8 +23,8 @@ add-test c = omega (arith, bounds (c .before .before .before .before .before .pr
 test-requires : tie.Need-test-requires
 test-requires c κs = let b = c .before .before .before .before .before .pre in (bounds (b .held) .registers, rw (operand-is (c .before)) (conditions-here (b .held) (b .operation) .ready))
 
-count-requires : tie.Need-count-requires
-count-requires c κs = let b = c .before .before .before .before .before .before .before .before .pre in let k = bounds (b .held) in (k .somePlace, k .places, top-small (b .held))
+count-symbol-requires : tie.Need-count-symbol-requires
+count-symbol-requires c κs = let b = c .before .before .before .before .before .before .before .before .pre in let k = bounds (b .held) in (k .somePlace, k .places, top-small (b .held))
 
 add-counted : tie.Need-add-counted
 add-counted c = omega (arith, bounds (c .before .before .before .before .before .before .before .before .before .before .before .before .pre .held) .inside)
@@ -43,7 +43,7 @@ same-length c = search needs
 
 returns : tie.Need-returns
 returns c =
-    let count = c .before .before .before .before .count in
+    let count = c .before .before .before .before .count-symbol in
     let if1 = c .before .before .before .before .before .before .if1 in
     let test = c .before .before .before .before .before .before .before .test in
     let operand = operand-is (c .before .before .before .before .before .before .before .before .before) in
@@ -66,7 +66,7 @@ test-spec =
     operand-requires
     add-test
     test-requires
-    count-requires
+    count-symbol-requires
     add-counted
     mul-counted
     add-counted-2

@@ -1,6 +1,6 @@
 use borrow.Author.Needs.{needs, sfits-of}
+use Rattle.value.proofs.Bits.{held}
 use Rattle.run_states.specs.Leaving.{finished-stopped, finished-failed}
-use Rattle.run_registers.proofs.Bits.{held}
 use borrow.Author.Needs.{needs}
 use Rattle.run_states.proofs.finished.Statement.{statement}
 use Rattle.run_states.proofs.finished.Tie as tie

@@ -11,7 +11,7 @@ use Rattle.run_moves.specs.declared.Run.{Run}
 use Rattle.run_moves.specs.declared.Step.{Step}
 use Rattle.run_moves.specs.declared.Step.the-variants.{Moved, Blocked}
 use Rattle.run_moves.specs.Held.{bounds}
-use Rattle.run_moves.specs.Notes.{Noted, noted-here}
+use Rattle.run_moves.specs.Returns.{ReturnsTo, return-here}
 use Rattle.run_next_token.specs.Operations.{Running}
 use Rattle.run_next_token.specs.Turns.{Turned, turned-judged, turned-predict}
 use Rattle.run_next_token.specs.Reading.{turned-after, turned-then}
@@ -63,8 +63,8 @@ word-at-requires c κs =
     let k = bounds (c .before .before .before .before .before .before .before .before .before .before .before .pre .0 .1 .running .held) in
     omega (arith, k .somePlace, k .places)
 
-note-requires : tie.Need-note-requires
-note-requires c κs = tt
+keep-return-requires : tie.Need-keep-return-requires
+keep-return-requires c κs = tt
 
 predict-requires : tie.Need-predict-requires
 predict-requires c κs =
@@ -81,10 +81,10 @@ abbrev start : tie.After-predict → tie.Start
 start c = else-of c .before .before .before .before .before .before
 
 -- the place that waits goes on from here
-waiting : (c : tie.After-note) → (let s = c .before .before .before .before .before .before .before .before .before .before .before .before .before .before in Noted (now (s .args .program)) (c .before .before .word-at .result) (s .args .run .at))
+waiting : (c : tie.After-keep-return) → (let s = c .before .before .before .before .before .before .before .before .before .before .before .before .before .before in ReturnsTo (now (s .args .program)) (c .before .before .word-at .result) (s .args .run .at))
 waiting c =
     let s = c .before .before .before .before .before .before .before .before .before .before .before .before .before .before in
-    subst (λ q. Noted (now (s .args .program)) q (s .args .run .at)) (sym (c .before .before .word-at .ensures .0)) (noted-here (s .pre .0 .1 .running .held) (s .pre .1))
+    subst (λ q. ReturnsTo (now (s .args .program)) q (s .args .run .at)) (sym (c .before .before .word-at .ensures .0)) (return-here (s .pre .0 .1 .running .held) (s .pre .1))
 
 -- what the predict answers
 abbrev Answered : tie.After-predict → List ℤ → Step → Type 0
@@ -126,7 +126,7 @@ returns-2 c =
     let n = c .before .n .given in
     let r = c .before .before .before .before .before in
     let k = r .before .before .before .before in
-    ((λ vs even. predicted r vs even (Blocked (n .0 .0)) (n .1)), k .note .ensures (now (start r .args .program)) (start r .pre .4) (waiting k))
+    ((λ vs even. predicted r vs even (Blocked (n .0 .0)) (n .1)), k .keep-return .ensures (now (start r .args .program)) (start r .pre .4) (waiting k))
 
 same-length-2 : tie.Need-same-length-2
 same-length-2 c = search needs
@@ -150,7 +150,7 @@ returns-3 c =
       (λ vs even.
           let on = m .read-on .ensures (a .limits .bound) (a .limits .most) (now (a .kinds)) vs (now (a .registers)) (index s) even (taken (else-of r) ∙ ap (judgedOf (a .limits .bound) (a .limits .most) (now (a .kinds)) (index s)) (sym same)) refl in
           turned-then here on (predicted r vs even (Moved (n .0 .0)) (n .1))),
-      k .note .ensures (now (a .program)) (s .pre .4) (waiting k),
+      k .keep-return .ensures (now (a .program)) (s .pre .4) (waiting k),
     )
 
 pub predict-next-spec : {M : Type 1} → statement M
@@ -164,7 +164,7 @@ predict-next-spec =
     cast-look
     sub-word-at
     word-at-requires
-    note-requires
+    keep-return-requires
     predict-requires
     enum-known-n
     enum-known-next

@@ -4,7 +4,7 @@ use lib.IntN.{pos}
 use lib.ListN.{length, getD}
 use denote.Ref.{now}
 use borrow.Author.Needs.{needs, sfits-of}
-use Rattle.run_machine.specs.Feeding.{four-of}
+use Rattle.theory_base.specs.Feeds.{four-of}
 use Rattle.sheet.specs.Calling.{FourTo, four-none, four-more, four-all}
 use Rattle.sheet.proofs.all_values.Statement.{statement}
 use Rattle.sheet.proofs.all_values.Tie as tie

@@ -3,9 +3,9 @@ use native.Mathlib.Omega.{arith}
 use lib.ListN.{length}
 use denote.Ref.{now}
 use borrow.Author.Needs.{needs, sfits-of}
-use Rattle.run_registers.proofs.Bits.{held}
 use Rattle.theory_program.specs.Addresses.{segment-at}
 use Rattle.theory_program.specs.WordsStand.{stands-within}
+use Rattle.value.proofs.Bits.{held}
 use Rattle.sheet.specs.Segments.{ends-value, ended-result, ends-35, ends-20, ends-21}
 use borrow.Author.Needs.{needs}
 use Rattle.sheet.proofs.ended.Statement.{statement}

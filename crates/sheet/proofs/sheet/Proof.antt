@@ -1,7 +1,8 @@
 use native.Mathlib.Omega.{arith}
 use denote.Ref.{now}
 use borrow.Author.Needs.{needs}
-use Rattle.sheet.specs.Calling.{never-short, table-refused, stands, readable, under-table}
+use Rattle.prepare.specs.Beginning.{standing-readable}
+use Rattle.sheet.specs.Calling.{never-short, table-refused, stands, under-table}
 use Rattle.sheet.proofs.sheet.Statement.{statement}
 use Rattle.sheet.proofs.sheet.Tie as tie
 
@@ -33,7 +34,7 @@ sheet-under-requires : tie.Need-sheet-under-requires
 sheet-under-requires c κs =
     let m = (c .before .before .before .before .before .before .before) .program-of in
     let x = (c .before .before .before .before) .length .given in
-    (readable (stands (m .result) (m .ensures .1) (x .0 .0) (x .1)), (c .before .before) .all-values .ensures)
+    (standing-readable (stands (m .result) (m .ensures .1) (x .0 .0) (x .1)), (c .before .before) .all-values .ensures)
 
 returns : tie.Need-returns
 returns c =

@@ -15,22 +15,22 @@ use Rattle.sheet_moves.proofs.made.Tie as tie
 returns : tie.Need-returns
 returns c = λ g lent d h ok. (blocked-limit h _ (λ z. omega (arith, z, c .before .before .before .before .pre .1)) (c .if1 .taken), h)
 
-one-requires : tie.Need-one-requires
-one-requires c κs =
+make-move-requires : tie.Need-make-move-requires
+make-move-requires c κs =
     let s = c .before .before .before .before .before .before in
     let r = s .pre .0 .running in
     (record { grammar = r .grammar; lent = r .lent; config = r .config; held = r .held; limit = omega (arith, bounds (r .held) .moves, c .before .before .if1 .left); operation = refl }, s .pre .1, s .pre .2)
 
 -- the step that was answered
-answered : (c : tie.After-one) (t : Step) → c .one .result ≡ t
+answered : (c : tie.After-make-move) (t : Step) → c .make-move .result ≡ t
     → let a = c .before .before .before .before .before .before .before .args in
-    Answers (now (a .program)) (now (a .registers)) (now (a .places)) (a .run) (comingOf (a .look) (a .value)) (c .one .last .0) (c .one .last .1 .0) t
+    Answers (now (a .program)) (now (a .registers)) (now (a .places)) (a .run) (comingOf (a .look) (a .value)) (c .make-move .last .0) (c .make-move .last .1 .0) t
 answered c t e =
     let a = c .before .before .before .before .before .before .before .args in
     subst
-    (λ x. Answers (now (a .program)) (now (a .registers)) (now (a .places)) (a .run) (comingOf (a .look) (a .value)) (c .one .last .0) (c .one .last .1 .0) x)
+    (λ x. Answers (now (a .program)) (now (a .registers)) (now (a .places)) (a .run) (comingOf (a .look) (a .value)) (c .make-move .last .0) (c .make-move .last .1 .0) x)
     e
-    (rw (toZ-ofZ (c .before .before .before .before .before .before .before .fits .value)) at (c .one .ensures))
+    (rw (toZ-ofZ (c .before .before .before .before .before .before .before .fits .value)) at (c .make-move .ensures))
 
 enum-known-next : tie.Need-enum-known-next
 enum-known-next c = search needs
@@ -61,7 +61,7 @@ made-spec =
     tie.close
     (tie.spec
     returns
-    one-requires
+    make-move-requires
     enum-known-next
     enum-known-k
     same-length

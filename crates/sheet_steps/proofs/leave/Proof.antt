@@ -3,12 +3,13 @@ use lib.Seq.{length-take-le}
 use denote.Ref.{now}
 use lib.ListN.{getD}
 use Prim.Native.Nat.{_≤_}
-use Rattle.theory_program.specs.Parts.{headOperation, removeOperation}
+use Rattle.theory_program.specs.Parts.{headOperation}
 use Rattle.sheet_record.specs.Recording.{Inner}
 use Rattle.sheet_steps.specs.Numbers.{low, walkedAs}
 use Rattle.sheet_steps.specs.Leaving.{Leaves}
 use Rattle.sheet_steps.specs.Walks.{left-whole}
 use borrow.Author.Needs.{needs}
+use Rattle.meaning.specs.Program.{removeOperation}
 use Rattle.sheet_steps.proofs.leave.Statement.{statement}
 use Rattle.sheet_steps.proofs.leave.Tie as tie
 

@@ -8,12 +8,13 @@ use Rattle.table_fields.proofs.Tests.{Test, isSame, isAtMost, lowestOf, GivenBy
 use mathlib.Core.Path.{refl}
 use native.Mathlib.Omega.{arith}
 use borrow.Author.Needs.{needs}
+use Rattle.meaning.specs.Limits.{attributesLimit}
 use Rattle.table_fields.specs.Judge.{countsFault}
 use Rattle.table_field_faults.proofs.counts_fault.Statement.{statement}
 use Rattle.table_field_faults.proofs.counts_fault.Tie as tie
 
 abbrev tests : List ℕ → List Test
-tests b = isSame (length b) 2 4 ∷ isAtMost (byte b 0 + byte b 1) 8 4 ∷ []
+tests b = isSame (length b) 2 4 ∷ isAtMost (byte b 0 + byte b 1) attributesLimit 4 ∷ []
 
 -- those of the start symbol
 abbrev of-start : ℕ → List ℕ → List Test

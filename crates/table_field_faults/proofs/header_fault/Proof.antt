@@ -6,12 +6,13 @@ use Rattle.table_fields.proofs.Tests.{Test, isSame, isAtMost, isBelow, lowestOf
 use mathlib.Core.Path.{refl}
 use native.Mathlib.Omega.{arith}
 use borrow.Author.Needs.{needs}
+use Rattle.meaning.specs.Limits.{nonterminalsLimit, terminalsLimit}
 use Rattle.table_fields.specs.Judge.{headerFault}
 use Rattle.table_field_faults.proofs.header_fault.Statement.{statement}
 use Rattle.table_field_faults.proofs.header_fault.Tie as tie
 
 abbrev tests : List ℕ → List Test
-tests b = isSame (length b) 4 4 ∷ isAtMost 1 (byte b 0) 4 ∷ isAtMost (byte b 0) 63 4 ∷ isAtMost 1 (byte b 1) 4 ∷ isAtMost (byte b 1) 48 4 ∷ isBelow (byte b 2) (byte b 1) 5 ∷ []
+tests b = isSame (length b) 4 4 ∷ isAtMost 1 (byte b 0) 4 ∷ isAtMost (byte b 0) terminalsLimit 4 ∷ isAtMost 1 (byte b 1) 4 ∷ isAtMost (byte b 1) nonterminalsLimit 4 ∷ isBelow (byte b 2) (byte b 1) 5 ∷ []
 
 by-tests : (b : List ℕ) → GivenBy (tests b) 0 (headerFault b)
 unfolding lowestOf headerFault

@@ -6,12 +6,13 @@ use Rattle.table_fields.proofs.Tests.{Test, isSame, isAtMost, isBelow, 
 use mathlib.Core.Path.{refl}
 use native.Mathlib.Omega.{arith}
 use borrow.Author.Needs.{needs}
+use Rattle.meaning.specs.Limits.{productionsLimit, symbolsLimit}
 use Rattle.table_fields.specs.Judge.{headFault}
 use Rattle.table_fields.proofs.head_fault.Statement.{statement}
 use Rattle.table_fields.proofs.head_fault.Tie as tie
 
 abbrev tests : ℕ → ℕ → List ℕ → List Test
-tests nonterminals p b = isAtMost 2 (length b) 4 ∷ isAtMost (byte b 1) 12 4 ∷ isSame (length b) (2 + byte b 1) 4 ∷ isBelow p 128 4 ∷ isBelow (byte b 0) nonterminals 5 ∷ []
+tests nonterminals p b = isAtMost 2 (length b) 4 ∷ isAtMost (byte b 1) symbolsLimit 4 ∷ isSame (length b) (2 + byte b 1) 4 ∷ isBelow p productionsLimit 4 ∷ isBelow (byte b 0) nonterminals 5 ∷ []
 
 by-tests : (nonterminals p : ℕ) (b : List ℕ) → GivenBy (tests nonterminals p b) 0 (headFault nonterminals p b)
 unfolding lowestOf headFault

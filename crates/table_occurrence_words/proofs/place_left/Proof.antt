@@ -5,6 +5,7 @@ use Rattle.outline.specs.Counts.{countAt, synthesized-nonterminal}
 use Rattle.table_occurrences.proofs.Laws.{filling-start, filling-more, filled}
 use Rattle.table_occurrence_words.proofs.Placing.{input-left-word, other-left-word}
 use borrow.Author.Needs.{needs}
+use Rattle.meaning.specs.Grammar.{nonterminalBase}
 use Rattle.table_occurrence_words.proofs.place_left.Statement.{statement}
 use Rattle.table_occurrence_words.proofs.place_left.Tie as tie
 
@@ -35,7 +36,7 @@ range-word-requires c κs =
     let wd2 = wd3 .before .before .before in
     let wd = wd2 .before .before .before in
     let st = wd .before .before .before in
-    let left = ap (λ (x : ℕ). 128 + x) (wd .wide .ensures .0) in
+    let left = ap (λ (x : ℕ). nonterminalBase + x) (wd .wide .ensures .0) in
     let is-i = wd2 .wide2 .ensures .0 ∙ wd2 .before .count-of .ensures ∙ ap (countAt (st .args .inherited .now)) left in
     let is-s = wd3 .wide3 .ensures .0 ∙ wd3 .before .count-of2 .ensures ∙ ap (countAt (st .args .synthesized .now)) left in
     (omega arith, omega (arith, st .pre .3))
@@ -52,7 +53,7 @@ range-word-requires-2 c κs =
     let wd2 = wd3 .before .before .before in
     let wd = wd2 .before .before .before in
     let st = wd .before .before .before in
-    let left = ap (λ (x : ℕ). 128 + x) (wd .wide .ensures .0) in
+    let left = ap (λ (x : ℕ). nonterminalBase + x) (wd .wide .ensures .0) in
     let is-i = wd2 .wide2 .ensures .0 ∙ wd2 .before .count-of .ensures ∙ ap (countAt (st .args .inherited .now)) left in
     let is-s = wd3 .wide3 .ensures .0 ∙ wd3 .before .count-of2 .ensures ∙ ap (countAt (st .args .synthesized .now)) left in
     (omega arith, omega (arith, st .pre .3))
@@ -69,7 +70,7 @@ returns c =
     let wd2 = wd3 .before .before .before in
     let wd = wd2 .before .before .before in
     let st = wd .before .before .before in
-    let left = ap (λ (x : ℕ). 128 + x) (wd .wide .ensures .0) in
+    let left = ap (λ (x : ℕ). nonterminalBase + x) (wd .wide .ensures .0) in
     let is-i = wd2 .wide2 .ensures .0 ∙ wd2 .before .count-of .ensures ∙ ap (countAt (st .args .inherited .now)) left in
     let is-s = wd3 .wide3 .ensures .0 ∙ wd3 .before .count-of2 .ensures ∙ ap (countAt (st .args .synthesized .now)) left in (
       λ carrying. filled _ _ _ _ _ (filling-more _ _ 0 _ (filling-start _ _ _ (st .pre .1)) (omega arith) _ (input-left-word _ _ carrying 0 _ _ _ is-i (synthesized-nonterminal _ _ _ _ (omega arith) is-s) refl _ (c .before .range-word .ensures))) refl,

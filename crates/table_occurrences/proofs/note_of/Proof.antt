@@ -1,6 +1,7 @@
 use Prim.Native.Nat.{_+_, _-_, _≤_}
 use native.Mathlib.Omega.{arith}
 use lib.ListN.{getD}
+use Rattle.meaning.specs.Limits.{positionsLimit}
 use Rattle.table_occurrences.specs.OccurrenceBits.{notedIn}
 use Rattle.table_occurrences.proofs.Laws.{Filling, filling-start, filling-more, filled}
 use Rattle.table_occurrences.proofs.Noted.{note-made, byte-made}
@@ -11,7 +12,7 @@ abbrev Inv-loop : tie.InvT-loop
 Inv-loop width inh syn settled note₀ k₀ note k = (k ≤ width + 1) × Filling (λ j. notedIn (getD settled j 0) j (getD inh j 0) (getD syn j 0)) 0 k note
 
 abbrev μ-loop : tie.MeasureT-loop
-μ-loop width inh syn settled note₀ k₀ note k = 13 - k
+μ-loop width inh syn settled note₀ k₀ note k = positionsLimit - k
 
 begin-requires : tie.Need-begin-requires Inv-loop μ-loop
 begin-requires c κs = tt

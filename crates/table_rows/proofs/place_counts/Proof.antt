@@ -2,6 +2,7 @@ use Prim.Native.Nat.{ℕ, _+_, _-_, _≤_}
 use mathlib.Core.Path.{ap, _∙_}
 use native.Mathlib.Omega.{arith}
 use lib.ListN.{length}
+use Rattle.meaning.specs.Grammar.{nonterminalBase}
 use Rattle.table_rows.proofs.Placing.{Placing, placing-start, placing-more}
 use Rattle.outline.specs.Counts.{countAt, synthesizedAt}
 use Rattle.table_rows.proofs.place_counts.Statement.{statement}
@@ -37,7 +38,7 @@ element-write-syn c = omega (arith, c .before .before .before .before .before .b
 loop-holds : tie.Need-loop-holds Inv-loop μ-loop
 loop-holds c =
     let st = c .before .before .before .before .before .before .before in
-    let symbol = ap (λ (x : ℕ). 128 + x) (c .before .before .before .before .wide .ensures .0) in
+    let symbol = ap (λ (x : ℕ). nonterminalBase + x) (c .before .before .before .before .wide .ensures .0) in
     let own = c .before .before .count-of .ensures ∙ ap (countAt _) symbol in
     let other = c .synthesized-of .ensures ∙ ap (synthesizedAt _ _) symbol in
     (omega arith, omega arith, placing-start _ _ (st .args .inh .now) _ (st .pre .4) own, placing-start _ _ (st .args .syn .now) _ (st .pre .5) other)

@@ -4,6 +4,7 @@ use native.Mathlib.Omega.{arith}
 use Prim.Native.Nat.{ℕ}
 use Rattle.table_rules.specs.Rule.{divisorFits}
 use lib.Dec.{leb}
+use Rattle.meaning.specs.Limits.{divisorLimit}
 use Rattle.table_rule_fields.proofs.divisor_fits.Statement.{statement}
 use Rattle.table_rule_fields.proofs.divisor_fits.Tie as tie
 
@@ -20,7 +21,7 @@ returns-2 c = equal-yes _ _ _ _ (omega arith) (below-yes _ _ _ _ (omega arith) (
 
 returns-3 : tie.Need-returns-3
 unfolding divisorFits
-returns-3 c = equal-yes _ _ _ _ (omega arith) (below-no _ _ _ _ (omega arith) (ap (λ (x : ℕ). leb x 1000000) (c .before .four-at .ensures .0)))
+returns-3 c = equal-yes _ _ _ _ (omega arith) (below-no _ _ _ _ (omega arith) (ap (λ (x : ℕ). leb x divisorLimit) (c .before .four-at .ensures .0)))
 
 pub divisor-fits-spec : {M : Type 1} → statement M
 divisor-fits-spec = tie.close (tie.spec returns four-at-requires returns-2 returns-3)

@@ -9,7 +9,7 @@ use lib.IntN.{ℤ}
 use mir.Syntax.{w64}
 use mir.Val.{toZ, ofZ}
 use Rattle.meaning_window.specs.Window as Window
-use Rattle.meaning_window.specs.Window.{sizeIn, heldIn, nextIn}
+use Rattle.meaning_window.specs.Window.{sizeIn, heldIn, nextIn, pastWindow}
 use Rattle.theory_window.specs.Ring as Ring
 use Rattle.window_cells.specs.Signed.{back}
 use Rattle.window_found.specs.Checks.{newLeaders}
@@ -79,7 +79,7 @@ returns c =
     let size : n ≡ sizeIn b = ap (λ x. x .size) (p .known .found) in
     let held : f .held ≡ heldIn b = ap (λ x. x .held) (p .known .found) in
     let next : f .next ≡ nextIn b = ap (λ x. x .next) (p .known .found) in
-    let from : f .from ≡ 65 - length (newLeaders b (sizeIn b) (s .args .value)) = ap (λ x. x .from) (p .known .found) in
+    let from : f .from ≡ pastWindow - length (newLeaders b (sizeIn b) (s .args .value)) = ap (λ x. x .from) (p .known .found) in
     let v : toZ w64 (ofZ w64 (s .args .value)) ≡ s .args .value = back (s .args .value) (s .fits .value) in
     let t : toZ w64 (ofZ w64 (f .sum)) ≡ f .sum = search needs in
     let x = c .before .before .before .before .before .store in
@@ -88,15 +88,15 @@ returns c =
     let a = c .before .before .before .before .before .before .before .before .after in
     let h : g .result ≡ Ring.grown (sizeIn b) (heldIn b) = g .ensures .0 ∙ (λ i. Ring.grown (size i) (held i)) in
     let k : a .result ≡ Window.after (sizeIn b) (nextIn b) = a .ensures .0 ∙ (λ i. Window.after (size i) (next i)) in
-    let e : y ≡ stored b (Ring.grown (sizeIn b) (heldIn b)) (Window.after (sizeIn b) (nextIn b)) (f .sum) (65 - f .from) (nextIn b) (s .args .value) = x .ensures ∙ (λ i. stored b (h i) (k i) (t i) (65 - f .from) (next i) (v i)) in
+    let e : y ≡ stored b (Ring.grown (sizeIn b) (heldIn b)) (Window.after (sizeIn b) (nextIn b)) (f .sum) (pastWindow - f .from) (nextIn b) (s .args .value) = x .ensures ∙ (λ i. stored b (h i) (k i) (t i) (pastWindow - f .from) (next i) (v i)) in
     let l : length y ≡ length b = x .kept .0 in
     let m : length (take (5 + 2 * n - (5 + n)) (drop (5 + n) y)) ≡ sizeIn b = omega (arith, length-take (5 + 2 * n - (5 + n)) (drop (5 + n) y), length-drop (5 + n) y, p .long) in
     let j : 5 + 2 * n - (5 + n) ≡ sizeIn b = omega arith in
     let new : take (length cells - f .from) (drop (f .from) cells) ≡ newLeaders b (sizeIn b) (s .args .value) =
     take-all (length cells - f .from) (drop (f .from) cells) (omega (arith, length-drop (f .from) cells)) ∙ (ap (λ i. drop i cells) from ∙ p .known .leaders .tail) in
-    let r : 65 - f .from ≡ length (newLeaders b (sizeIn b) (s .args .value)) = omega (arith, few-leaders b (p .known .kept) (s .args .value), p .most) in
+    let r : pastWindow - f .from ≡ length (newLeaders b (sizeIn b) (s .args .value)) = omega (arith, few-leaders b (p .known .kept) (s .args .value), p .most) in
     ap (λ (ys : List ℤ). take (5 + n) y ++ (ys ++ drop (5 + 2 * n - (5 + n)) (drop (5 + n) y))) (c .before .lay .ensures)
-    ∙ renewed b (p .known .kept) (s .args .value) _ (65 - f .from) (f .sum) y new r (ap (λ x. x .sum) (p .known .found)) e n _ _ size m j
+    ∙ renewed b (p .known .kept) (s .args .value) _ (pastWindow - f .from) (f .sum) y new r (ap (λ x. x .sum) (p .known .found)) e n _ _ size m j
 
 pub renew-spec : {M : Type 1} → statement M
 renew-spec =

@@ -8,7 +8,7 @@ use mir.Syntax.{w64}
 use mir.Val.{SFits, toZ, ofZ}
 use borrow.Author.Needs.{sfits-of, needs}
 use borrow.Author.Tests.{not-true, not-false, eq-eqb, ne-eqb}
-use Rattle.meaning_window.specs.Window.{sameNumber}
+use Rattle.meaning_window.specs.Window.{sameNumber, windowLimit, pastWindow}
 use Rattle.value.specs.Overflow.{fits64, reach}
 use Rattle.theory_base.specs.Absolute.{natAbs-add, natAbs-sub}
 use Rattle.theory_window.specs.Kept.{sameNumber-same}
@@ -71,13 +71,13 @@ module _ (c : tie.After-struct-told4) where
       let l : toZ w64 (ofZ w64 (w .last)) ≡ w .last = search needs in
       back (c .before .before .leaving .result) (sfits-of (c .before .before .leaving .ok)) ∙ (c .before .before .leaving .ensures ∙ ap (leavingOf (c .before .before .before .before .before .before .before .before .before .before .args .size) (at .held)) l)
 
-  total-size : natAbs (at .total) ≤ reach * 64
+  total-size : natAbs (at .total) ≤ reach * windowLimit
   total-size =
       let q = c .before .before .before .before in
       let e : at .total ≡ w .sum = sameNumber-same (at .total) (w .sum) (compared (q .before) ∙ not-false (q .before .same .result) (q .if2 .left)) in
       rw e (c .before .before .before .before .before .before .before .before .before .before .pre .sum)
 
-  less-size : natAbs less ≤ reach * 65
+  less-size : natAbs less ≤ reach * pastWindow
   less-size =
       let n = c .before .before .before .before .before .before .before .before .before .before .args .size in
       omega (arith, total-size, natAbs-sub (at .total) (leavingOf n (at .held) (w .last)), leaving-size n (at .held) (w .last) (c .before .before .before .before .before .before .before .before .before .before .pre .last))

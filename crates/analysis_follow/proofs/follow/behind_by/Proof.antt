@@ -3,7 +3,7 @@ use native.Mathlib.Omega.{arith}
 use mathlib.Core.Path.{_≡_, refl, sym, ap, _∙_}
 use lib.ListN.{length}
 use Rattle.meaning.specs.Sets.{singleton}
-use Rattle.outline.specs.Images.{Image, sizeAt, row-inside, symbol-inside}
+use Rattle.outline.specs.Images.{Image, sizeAt, row-inside, symbol-inside, symbolBytes}
 use Rattle.set_words.specs.Views.{members, next-small}
 use Rattle.analysis.specs.Follows.{BaseFrom, EdgeFrom, Behind, filled-none, filled-then, filled-join, Rest, rest-start, rest-step, base-fine, base-more, base-end, Upward, up-start, up-step, edge-fine, edge-more, edge-end}
 use Rattle.analysis_follow.proofs.Quiet.{Quiet, quiet-none, quiet-next}
@@ -28,7 +28,7 @@ inside : (c : tie.In-loop Inv-loop μ-loop) → c .before .loop .i - 1 < sizeAt 
 inside c = omega (arith, c .before .loop .inv .0, c .loop-test .taken)
 
 -- and it is one
-symbol : (c : tie.After-symbol-of Inv-loop μ-loop) → c .symbol-of .result < 176
+symbol : (c : tie.After-symbol-of Inv-loop μ-loop) → c .symbol-of .result < symbolBytes
 symbol c = let lp = c .before .before in next-small (start (lp .before) .pre .0) _ _ (inside lp) (c .symbol-of .ensures)
 
 left-of-requires : tie.Need-left-of-requires Inv-loop μ-loop
@@ -75,7 +75,7 @@ loop-again c =
     let lf = lp .before .before .before .before in
     let one = lf .of-nonterminal .ensures ∙ ap singleton (lf .before .left-of .ensures) in
     let e : lp .before .loop .quiet ≡ _ = sym (c .if1 .taken) ∙ so .symbol-of .ensures in
-    let small : lp .before .loop .quiet < 176 = omega (arith, symbol so, c .if1 .taken) in
+    let small : lp .before .loop .quiet < symbolBytes = omega (arith, symbol so, c .if1 .taken) in
     let there = iv .5 .there small in
     let edged = iv .5 .edged small in (
       omega (arith, iv .0),

@@ -1,15 +1,16 @@
 use Prim.Native.Nat.{_≤_, _-_}
 use native.Mathlib.Omega.{arith}
 use mathlib.Core.Path.{_≡_}
+use Rattle.meaning.specs.Limits.{attributesLimit}
 use Rattle.clash.specs.Kept.{Stored, stored-none, stored-next}
 use Rattle.clash.proofs.kept.store.Statement.{statement}
 use Rattle.clash.proofs.kept.store.Tie as tie
 
 abbrev Inv-loop : tie.InvT-loop
-Inv-loop ends₀ p own a₀ ends a = (a ≤ 8) × Stored a own p ends₀ ends
+Inv-loop ends₀ p own a₀ ends a = (a ≤ attributesLimit) × Stored a own p ends₀ ends
 
 abbrev μ-loop : tie.MeasureT-loop
-μ-loop ends₀ p own a₀ ends a = 8 - a
+μ-loop ends₀ p own a₀ ends a = attributesLimit - a
 
 loop-holds : tie.Need-loop-holds Inv-loop μ-loop
 loop-holds c = (omega arith, stored-none _ _ _)
@@ -42,7 +43,7 @@ loop-again : tie.Need-loop-again Inv-loop μ-loop
 loop-again c = let lp = c .before .before in (omega arith, stored-next (lp .loop .inv .1) (omega (arith, lp .before .pre .1)))
 
 returns : tie.Need-returns Inv-loop μ-loop
-returns c = let e : c .before .loop .a ≡ 8 = omega arith in rw e at (c .before .loop .inv .1)
+returns c = let e : c .before .loop .a ≡ attributesLimit = omega arith in rw e at (c .before .loop .inv .1)
 
 pub store-spec : {M : Type 1} → statement M
 store-spec =

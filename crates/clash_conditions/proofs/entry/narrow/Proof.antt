@@ -5,12 +5,13 @@ use mathlib.Core.List.{List}
 use Prim.Native.Nat.{ℕ, _≤_, _<_, max}
 use borrow.Author.Tests.{not-true, not-false}
 use Rattle.meaning.specs.Grammar.{range}
-use Rattle.meaning.specs.Table.{byte, signed, constantAt}
 use Rattle.theory_sets.specs.Intervals.{entered}
 use Rattle.clash_conditions.specs.BoundWords.{biased}
 use Rattle.clash_conditions.specs.EntryConditions.{entryHere, conditionHere, afterField, rankBy, raiseBy, lowerBy}
 use Rattle.clash_conditions.proofs.Laws as L
 use borrow.Author.Needs.{needs}
+use Rattle.meaning.specs.Table.{byte, signed, constantAt}
+use Rattle.meaning.specs.Limits.{attributesLimit}
 use Rattle.clash_conditions.proofs.entry.narrow.Statement.{statement}
 use Rattle.clash_conditions.proofs.entry.narrow.Tie as tie
 
@@ -27,11 +28,11 @@ entryOf c = c .before .before
 is-range : (c : tie.Else2) → conditionHere (field (entryOf c)) ≡ range (byte (field (entryOf c)) 5) (constantAt (field (entryOf c)) 6) (constantAt (field (entryOf c)) 10)
 is-range c = L.range-here _ _ (c .before .byte-at .ensures .0) (omega arith)
 
-attribute : (c : tie.Else2) → (0 < byte (field (entryOf c)) 5) × (byte (field (entryOf c)) 5 ≤ 8)
+attribute : (c : tie.Else2) → (0 < byte (field (entryOf c)) 5) × (byte (field (entryOf c)) 5 ≤ attributesLimit)
 attribute c =
     let e1 = entryOf c in
     let d = field e1 in
-    let k = entered 8 (byte d 5) (constantAt d 6) (constantAt d 10) (rw (is-range c) at (e1 .before .before .before .pre (here e1))) in
+    let k = entered attributesLimit (byte d 5) (constantAt d 6) (constantAt d 10) (rw (is-range c) at (e1 .before .before .before .pre (here e1))) in
     (k .from, k .upto)
 
 is-entry-requires : tie.Need-is-entry-requires
