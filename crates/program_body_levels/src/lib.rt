@@ -9,7 +9,7 @@ ghost use Rattle.program_body_words.specs.Waits.{LeveledAndWaiting};
 use limits::POSITIONS;
 use outline::count_of;
 use outline::synthesized_of;
-use program_body_counts::clear;
+use program_zeros::clear;
 use token_set::TokenSet;
 
 // The levels of the positions. On the way what the production's places wait at is written: a word for each symbol, then zeros.

@@ -61,7 +61,7 @@ pub fn write_directory(
     ensures { λ r. ⌜ ((x : Alternatives (now (rows .entry)) (now (sets .entry)) nonterminals count) → Recorded (x .grammar) (now (area .entry)) → Wrote (now (area .entry)) (now (area .exit)) 9 r (directory (x .grammar))) ⌝ }
 {
     let end = DIRECTORY + DIRECTORY_WORDS * nonterminals;
-    program_body_counts::clear(area, DIRECTORY, end);
+    program_zeros::clear(area, DIRECTORY, end);
     let mut p = count;
     while 0 < p {
         let left = outline::left_of(rows, p - 1) as usize;

@@ -47,8 +47,8 @@ module _ (bound most : ℕ) (us : List ℕ) (i n : ℕ) where
 -- ---- the operation at hand
 
 -- the operations that need what comes next, and the number that says that nothing is left
-abbrev pub looks : ℕ → Bool
-looks k = eqb k readOperation || (eqb k predictOperation || eqb k nothingOperation)
+abbrev pub looksAhead : ℕ → Bool
+looksAhead k = eqb k readOperation || (eqb k predictOperation || eqb k nothingOperation)
 
 -- ---- the value of a token
 

@@ -2,13 +2,13 @@
 use mathlib.Core.Path.{_≡_, refl}
 use mathlib.Core.Bool.{true, false}
 use mathlib.Core.List.{[], _∷_}
-use Rattle.run_looking.specs.Judging.{looks, judgedOf}
+use Rattle.run_looking.specs.Judging.{looksAhead, judgedOf}
 
 -- a read looks at what comes next, a remove does not
-read : looks 2 ≡ true
+read : looksAhead 2 ≡ true
 read = refl
 
-goesOn : looks 5 ≡ false
+goesOn : looksAhead 5 ≡ false
 goesOn = refl
 
 -- of two tokens the second is taken; the last one that may be; one not below T; one too many; none comes

@@ -46,7 +46,7 @@ pub fn carried(program: &[u32], kind: usize, value: i32) -> i64
 
 // Whether an operation looks at what comes next.
 pub fn looks_ahead(operation: usize) -> bool
-    ensures { λ r. ⌜ r ≡ Judging.looks operation ⌝ }
+    ensures { λ r. ⌜ r ≡ Judging.looksAhead operation ⌝ }
 {
     if operation == operations::READ {
         return true;

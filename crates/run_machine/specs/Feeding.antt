@@ -25,8 +25,8 @@ pub use Rattle.run_next_token.specs.Coming.{comesTo, comes-is, comes-ahead}
 abbrev pub Answered : List ℕ → (Grammar → Lent → Config → Settled) → List ℤ → List ℕ → Run → List ℤ → List ℕ → Ended.Ended → Type 0
 Answered ws f m₀ ps₀ run₀ m ps e = (g : Grammar) (lent : Lent) (c : Config) → Held g ws lent m₀ ps₀ run₀ c → Settles g ws lent (f g lent c) m ps e
 
-abbrev pub TakesAll : ℕ → ℕ → List ℕ → List ℕ → List ℤ → List ℤ → List ℕ → Run → List ℤ → List ℕ → Ended.Ended → Type 0
-TakesAll bound most ws us vs = Answered ws (λ g lent c. takeLooks bound most g lent (tokensFrom us vs) c)
+abbrev pub TakesTokens : ℕ → ℕ → List ℕ → List ℕ → List ℤ → List ℤ → List ℕ → Run → List ℤ → List ℕ → Ended.Ended → Type 0
+TakesTokens bound most ws us vs = Answered ws (λ g lent c. takeLooks bound most g lent (tokensFrom us vs) c)
 
 abbrev pub Feeds : List ℕ → List ℕ → List ℤ → List ℤ → List ℕ → Run → List ℤ → List ℕ → Ended.Ended → Type 0
 Feeds ws ks vs = Answered ws (λ g lent c. feedAll g lent (leaves g (tokensFrom ks vs)) c)
@@ -64,13 +64,13 @@ abbrev pub Finishes : List ℕ → List ℤ → List ℕ → Run → List ℤ �
 Finishes ws = Answered ws (λ g lent c. finishAll g lent c)
 
 module _ {ws : List ℕ} {m : List ℤ} {ps : List ℕ} {run : Run} (m′ : List ℤ) (ps′ : List ℕ) (e : Ended.Ended) where
-  pub tokens-fed : (bound : ℕ) (ks : List ℕ) (vs : List ℤ) → bound ≡ getD ws 3 0 → TakesAll bound (tokensLimit - 1) ws ks vs m ps run m′ ps′ e → Feeds ws ks vs m ps run m′ ps′ e
+  pub tokens-fed : (bound : ℕ) (ks : List ℕ) (vs : List ℤ) → bound ≡ getD ws 3 0 → TakesTokens bound (tokensLimit - 1) ws ks vs m ps run m′ ps′ e → Feeds ws ks vs m ps run m′ ps′ e
   tokens-fed bound ks vs b a g lent c h =
       let ts = tokensFrom ks vs in
       let same : takeLooks bound (tokensLimit - 1) g lent ts c ≡ feedAll g lent (leaves g ts) c = ap (λ k. takeLooks k (tokensLimit - 1) g lent ts c) (b ∙ segment-words (h .begins) .terminals) ∙ tokens-taken g lent ts c (h .wellFormed) in
       subst (λ o. Settles g ws lent o m′ ps′ e) same (a g lent c h)
 
-  pub end-finished : (most : ℕ) (v : ℤ) → run .tokens ≤ most → TakesAll 64 most ws (endNumber ∷ []) (v ∷ []) m ps run m′ ps′ e → Finishes ws m ps run m′ ps′ e
+  pub end-finished : (most : ℕ) (v : ℤ) → run .tokens ≤ most → TakesTokens 64 most ws (endNumber ∷ []) (v ∷ []) m ps run m′ ps′ e → Finishes ws m ps run m′ ps′ e
   end-finished most v l a g lent c h = subst (λ o. Settles g ws lent o m′ ps′ e) (end-taken g lent most v c (omega (arith, h .tokens))) (a g lent c h)
 
 -- T is at most 63

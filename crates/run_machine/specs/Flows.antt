@@ -15,7 +15,7 @@ use Rattle.run_machine.specs.declared.Ended as Ended
 use Rattle.run_machine.specs.declared.Ended.the-variants.{Stopped, Failed}
 use Rattle.run_moves.specs.Held.{Held}
 use Rattle.run_machine.specs.Advancing.{Settles}
-use Rattle.run_machine.specs.Feeding.{TakesAll}
+use Rattle.run_machine.specs.Feeding.{TakesTokens}
 use Rattle.run_next_token.specs.Operations.{Running}
 use Rattle.run_next_token.specs.Coming.{takeLooks}
 use Rattle.run_next_token.specs.Turns.{SettlesBy, Left, ahead, refused, Turned}
@@ -41,7 +41,7 @@ module _ (bound most : ℕ) (ws us : List ℕ) (vs m : List ℤ) (ps : List ℕ)
   pub flows-start : 1 ≡ judgedOf bound most us 0 (run .tokens) → (i : ℕ) → i ≡ 0 → Flows bound most ws us vs m ps run i m ps run
   flows-start j i z = subst (λ k. Flows bound most ws us vs m ps run k m ps run) (sym z) (record { from = λ g lent c h. (c, h, ahead (j ∙ ap (judgedOf bound most us 0) (h .tokens)) refl) })
 
-  pub not-begun : (k : ℕ) → length us ≡ length vs → k ≡ judgedOf bound most us 0 (run .tokens) → (k ≡ 1 → ⊥) → TakesAll bound most ws us vs m ps run m ps (endedBy run k)
+  pub not-begun : (k : ℕ) → length us ≡ length vs → k ≡ judgedOf bound most us 0 (run .tokens) → (k ≡ 1 → ⊥) → TakesTokens bound most ws us vs m ps run m ps (endedBy run k)
   not-begun k even e z g lent c h = settles-by g ws lent (takeLooks bound most g lent (tokensFrom us vs) c) m ps run k (refused bound most us vs even g lent 0 c k h (e ∙ ap (judgedOf bound most us 0) (h .tokens)) z)
 
 module _ {bound most : ℕ} {ws us : List ℕ} {vs m₀ : List ℤ} {ps₀ : List ℕ} {run₀ : Run} {i : ℕ} {m : List ℤ} {ps : List ℕ} {run : Run} (k : Flows bound most ws us vs m₀ ps₀ run₀ i m ps run) where
@@ -65,7 +65,7 @@ module _ {bound most : ℕ} {ws us : List ℕ} {vs m₀ : List ℤ} {ps₀ : Lis
             (s .0, s .1, subst (λ x. Left bound most us vs g lent x (s .0) o) (sym z) (s .4));
       }
 
-  pub flows-ended : (m′ : List ℤ) (ps′ : List ℕ) (run′ : Run) (n : ℕ) → Ends bound most ws us vs i m ps run m′ ps′ run′ n → TakesAll bound most ws us vs m₀ ps₀ run₀ m′ ps′ (endedBy run′ n)
+  pub flows-ended : (m′ : List ℤ) (ps′ : List ℕ) (run′ : Run) (n : ℕ) → Ends bound most ws us vs i m ps run m′ ps′ run′ n → TakesTokens bound most ws us vs m₀ ps₀ run₀ m′ ps′ (endedBy run′ n)
   flows-ended m′ ps′ run′ n a g lent c h =
       let q = k .from g lent c h in
       let o = takeLooks bound most g lent (tokensFrom us vs) c in

@@ -3,8 +3,9 @@ ghost use mathlib.Core.Path.{_≡_};
 ghost use lib.ListN.{length};
 ghost use Rattle.run_next_token.specs.Operations.{Running};
 ghost use Rattle.run_next_token.specs.Turns.{Fed};
-ghost use Rattle.run_machine.specs.Feeding.{TakesAll, Feeds, Finishes};
+ghost use Rattle.run_machine.specs.Feeding.{TakesTokens, Feeds, Finishes};
 ghost use Rattle.run_machine.specs.Flows.{endedBy};
+use limits::END;
 use limits::TOKENS_BEFORE;
 use run_looking::Limits;
 use run_moves::Run;
@@ -13,6 +14,11 @@ use run_turn::RETURN_WORDS;
 
 // In the place of a place, where no return address is kept.
 const NO_PLACE: usize = 65536;
+
+// The end in the place of a token's kind, and the bound of kinds that admits it.
+const END_KIND: u8 = END as u8;
+
+const KINDS: usize = END + 1;
 
 // What moves lead to until one needs what comes next: a stop, or the number that refuses the move at hand.
 pub enum Ended {
@@ -42,7 +48,7 @@ fn take_tokens(
     most: u64,
 ) -> Ended
     requires { ⌜ Fed bound (now program) (now registers) (now places) run (now kinds) (now values) ⌝ }
-    ensures { λ r. ⌜ TakesAll bound most (now (program .entry)) (now (kinds .entry)) (now (values .entry)) (now (registers .entry)) (now (places .entry)) run (now (registers .exit)) (now (places .exit)) r ⌝ }
+    ensures { λ r. ⌜ TakesTokens bound most (now (program .entry)) (now (kinds .entry)) (now (values .entry)) (now (registers .entry)) (now (places .entry)) run (now (registers .exit)) (now (places .exit)) r ⌝ }
 {
     let limits = Limits {
         from: run.tokens,
@@ -102,7 +108,7 @@ pub fn finish(registers: &mut [i64], places: &mut [u32], program: &[u32], run: R
     requires { ⌜ Running (now program) (now registers) (now places) run ⌝ }
     ensures { λ r. ⌜ Finishes (now (program .entry)) (now (registers .entry)) (now (places .entry)) run (now (registers .exit)) (now (places .exit)) r ⌝ }
 {
-    let looks = [63u8; 1];
+    let looks = [END_KIND; 1];
     let values = [0i32; 1];
     take_tokens(
         registers,
@@ -111,7 +117,7 @@ pub fn finish(registers: &mut [i64], places: &mut [u32], program: &[u32], run: R
         run,
         &looks,
         &values,
-        64,
+        KINDS,
         u64::MAX,
     )
 }

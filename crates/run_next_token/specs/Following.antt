@@ -20,7 +20,7 @@ use Rattle.run_moves.specs.Moves.{countIf, passed}
 use Rattle.run_moves.specs.Passing.{made-read}
 use Rattle.run_next_token.specs.Operations.{Running}
 use Rattle.run_next_token.specs.Turns.{Turned}
-use Rattle.run_next_token.specs.Reading.{Reaches, Reads, reaches-none, reaches-then, turned-reaches, turned-after, turned-plain, barely, bare-of, plain-from}
+use Rattle.run_next_token.specs.Reading.{Reaches, Reads, reaches-none, reaches-then, turned-reaches, turned-after, turned-plain, isPlainRead, bare-of, plain-from}
 
 -- ---- the run and the places
 
@@ -93,12 +93,12 @@ module _ (bound most : ℕ) (ws us : List ℕ) (i : ℕ) (run : Run) where
       let same : run ≡ afterReads run 0 = same-run run (omega arith) (omega arith) (omega arith) in
       (subst (λ x. Reaches bound most ws us vs i rs ps run rs ps x) same reaches-none, subst (Running ws rs ps) same r)
 
-  module _ (n : ℕ) (j : 1 ≡ judgedOf bound most us (i + n) (run .tokens + n)) (small : getD us (i + n) 0 < 64) (b : barely ws (run .at + n) (getD us (i + n) 0) ≡ true) (limit : run .moves + n < movesLimit) where
+  module _ (n : ℕ) (j : 1 ≡ judgedOf bound most us (i + n) (run .tokens + n)) (small : getD us (i + n) 0 < 64) (b : isPlainRead ws (run .at + n) (getD us (i + n) 0) ≡ true) (limit : run .moves + n < movesLimit) where
     abbrev here : Run
     here = afterReads run n
 
     on-word : headOperation (getD ws (run .at + n) 0) ≡ readOperation
-    on-word = omega (arith, bare-of ws (run .at + n) (getD us (i + n) 0) (true→T (barely ws (run .at + n) (getD us (i + n) 0)) b) .0)
+    on-word = omega (arith, bare-of ws (run .at + n) (getD us (i + n) 0) (true→T (isPlainRead ws (run .at + n) (getD us (i + n) 0)) b) .0)
 
     pub follow-more : FollowBy bound most ws us i run n → FollowBy bound most ws us i run (suc n)
     follow-more f ps rs vs even r =

@@ -16,7 +16,7 @@ use Rattle.meaning.specs.Part.{frame}
 use Rattle.meaning.specs.Program.{nothingOperation}
 use Rattle.theory_program.specs.Parts.{headOperation}
 use Rattle.theory_program.specs.Code.{operation, low-operation}
-use Rattle.run_looking.specs.Judging.{looks}
+use Rattle.run_looking.specs.Judging.{looksAhead}
 use Rattle.run_moves.specs.declared.Run.{Run}
 use Rattle.run_moves.specs.declared.Step.the-variants.{Blocked}
 use Rattle.run_moves.specs.Held.{Held, Answers, AtHand, some, nothing, at-hand}
@@ -30,7 +30,7 @@ pub record Running (ws : List ℕ) (m : List ℤ) (ps : List ℕ) (run : Run) : 
 
 -- ---- the operation's number
 
-looks-right : (i : Instruction) (is : List Instruction) → looks (operation i) ≡ needsLook (i ∷ is)
+looks-right : (i : Instruction) (is : List Instruction) → looksAhead (operation i) ≡ needsLook (i ∷ is)
 looks-right (add n) is = refl
 looks-right (evaluate rs) is = refl
 looks-right (expect (terminal t)) is = refl
@@ -61,14 +61,14 @@ module _ {g : Grammar} {ws : List ℕ} {lent : Lent} {m : List ℤ} {ps : List �
       go (nothing below e w l) = omega arith
 
   -- whether the machine waits
-  pub waits-is : looks number ≡ waits (c .frames)
+  pub waits-is : looksAhead number ≡ waits (c .frames)
   waits-is = go (at-hand h)
     where
-      go : AtHand h → looks number ≡ waits (c .frames)
-      go (some i x o n) = ap looks o ∙ (looks-right i (x .rest) ∙ sym (ap waits (x .frames)))
+      go : AtHand h → looksAhead number ≡ waits (c .frames)
+      go (some i x o n) = ap looksAhead o ∙ (looks-right i (x .rest) ∙ sym (ap waits (x .frames)))
       go (nothing below e w l) =
           let z : number ≡ nothingOperation = omega arith in
-          ap looks z ∙ sym (ap waits e)
+          ap looksAhead z ∙ sym (ap waits e)
 
   -- whether the start symbol is left
   pub finished-is : eqb number nothingOperation ≡ isFinished c

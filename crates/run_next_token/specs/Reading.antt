@@ -21,7 +21,7 @@ use Rattle.meaning.specs.Program.{headOf, readOperation}
 use Rattle.theory_program.specs.Parts.{headOperation, headOperand}
 use Rattle.theory_program.specs.Addresses.{Begins}
 use Rattle.theory_program.specs.Records.{carrier-word}
-use Rattle.run_looking.specs.Judging.{looks, judgedOf, carriesAt, value-none}
+use Rattle.run_looking.specs.Judging.{looksAhead, judgedOf, carriesAt, value-none}
 use Rattle.run_moves.specs.declared.Run.{Run}
 use Rattle.run_moves.specs.declared.Step.the-variants.{Moved}
 use Rattle.run_moves.specs.Held.{Held, Made, Answers}
@@ -74,28 +74,28 @@ module _ {bound most : ℕ} {ws us : List ℕ} {vs : List ℤ} {i : ℕ} {m : Li
 -- ---- the read of a token that brings no value
 
 -- it stands at address a
-abbrev pub barely : List ℕ → ℕ → ℕ → Bool
-barely ws a u = eqb (getD ws a 0) (headOf readOperation u) && not (carriesAt ws u)
+abbrev pub isPlainRead : List ℕ → ℕ → ℕ → Bool
+isPlainRead ws a u = eqb (getD ws a 0) (headOf readOperation u) && not (carriesAt ws u)
 
 -- it is at hand, and a move is left for it
-abbrev pub plainly : List ℕ → Run → ℕ → Bool
-plainly ws run u = barely ws (run .at) u && not (eqb (run .moves) movesLimit)
+abbrev pub canReadPlain : List ℕ → Run → ℕ → Bool
+canReadPlain ws run u = isPlainRead ws (run .at) u && not (eqb (run .moves) movesLimit)
 
-pub bare-of : (ws : List ℕ) (a u : ℕ) → T (barely ws a u) → (getD ws a 0 ≡ headOf readOperation u) × (carriesAt ws u ≡ false)
+pub bare-of : (ws : List ℕ) (a u : ℕ) → T (isPlainRead ws a u) → (getD ws a 0 ≡ headOf readOperation u) × (carriesAt ws u ≡ false)
 bare-of ws a u t =
     let s = both (eqb (getD ws a 0) (headOf readOperation u)) (not (carriesAt ws u)) t in
     (eqb→eq (getD ws a 0) (headOf readOperation u) (s .0), is-false (carriesAt ws u) (s .1))
 
-pub plain-of : (ws : List ℕ) (run : Run) (u : ℕ) → plainly ws run u ≡ true → (getD ws (run .at) 0 ≡ headOf readOperation u) × (carriesAt ws u ≡ false) × (run .moves ≡ movesLimit → ⊥)
+pub plain-of : (ws : List ℕ) (run : Run) (u : ℕ) → canReadPlain ws run u ≡ true → (getD ws (run .at) 0 ≡ headOf readOperation u) × (carriesAt ws u ≡ false) × (run .moves ≡ movesLimit → ⊥)
 plain-of ws run u e =
-    let a = both (barely ws (run .at) u) (not (eqb (run .moves) movesLimit)) (true→T (plainly ws run u) e) in
+    let a = both (isPlainRead ws (run .at) u) (not (eqb (run .moves) movesLimit)) (true→T (canReadPlain ws run u) e) in
     let b = bare-of ws (run .at) u (a .0) in
     (b .0, b .1, λ z. differs (eqb (run .moves) movesLimit) (eq-eqb (run .moves) movesLimit z) (a .1))
   where
     differs : (b : Bool) → b ≡ true → T (not b) → ⊥
     differs b z t = subst (λ x. T (not x)) z t
 
-pub plain-from : (ws : List ℕ) (run : Run) (u : ℕ) → barely ws (run .at) u ≡ true → (run .moves ≡ movesLimit → ⊥) → plainly ws run u ≡ true
+pub plain-from : (ws : List ℕ) (run : Run) (u : ℕ) → isPlainRead ws (run .at) u ≡ true → (run .moves ≡ movesLimit → ⊥) → canReadPlain ws run u ≡ true
 plain-from ws run u e z = ap (λ b. b && not (eqb (run .moves) movesLimit)) e ∙ ap not (ne-eqb (run .moves) movesLimit z)
 
 -- a token that brings no value is the same whatever stands beside it
@@ -109,14 +109,14 @@ same-plain {g} {ws} b u v small none = go (eqb u endNumber)
     go true = refl
     go false = ap (λ c. comes (record { kind = u; values = carried c (pos 0) })) off ∙ sym (ap (λ c. comes (record { kind = u; values = carried c v })) off)
 
-module _ (bound most : ℕ) (ws us : List ℕ) (vs m : List ℤ) (ps : List ℕ) (run : Run) (i : ℕ) (even : length us ≡ length vs) (j : 1 ≡ judgedOf bound most us i (run .tokens)) (small : getD us i 0 < 64) (p : plainly ws run (getD us i 0) ≡ true) where
+module _ (bound most : ℕ) (ws us : List ℕ) (vs m : List ℤ) (ps : List ℕ) (run : Run) (i : ℕ) (even : length us ≡ length vs) (j : 1 ≡ judgedOf bound most us i (run .tokens)) (small : getD us i 0 < 64) (p : canReadPlain ws run (getD us i 0) ≡ true) where
   pub turned-plain : {ps′ : List ℕ} {run′ : Run} → ((value : ℤ) → isMark value ≡ true → Answers ws m ps run (comingOf (headOperand (getD ws (run .at) 0)) value) m ps′ (Moved run′)) → Turned bound most ws us vs i m ps run m ps′ (Moved run′)
   turned-plain {ps′} {run′} a =
       let u = getD us i 0 in
       let k = plain-of ws run u p in
       let o : headOperation (getD ws (run .at) 0) ≡ readOperation = omega (arith, k .0) in
       let n : headOperand (getD ws (run .at) 0) ≡ u = omega (arith, k .0) in
-      turned-look bound most ws us vs m ps run i even j m ps′ (Moved run′) (ap looks o) (λ z. omega (arith, o, z))
+      turned-look bound most ws us vs m ps run i even j m ps′ (Moved run′) (ap looksAhead o) (λ z. omega (arith, o, z))
       (λ g lent d h.
       let w = value-none ws u (pos 0) (k .1) in
       let same : comingOf (headOperand (getD ws (run .at) 0)) mark ≡ comesTo g u (pos 0) = ap (λ x. comingOf x mark) n ∙ (ap (comingOf u) w ∙ comes-is (h .begins) u (pos 0) small tt) in

@@ -19,7 +19,7 @@ use Rattle.theory_answers.specs.Bounds.{Counts, counts, look-free, no-read, Blo
 use Rattle.theory_answers.specs.ShapeMoves.{IsAhead}
 use Rattle.meaning.specs.Program.{readOperation, predictOperation, nothingOperation}
 use Rattle.theory_program.specs.Parts.{headOperation, headOperand}
-use Rattle.run_looking.specs.Judging.{looks, judgedBy, judgedOf, taken-of, valueAt}
+use Rattle.run_looking.specs.Judging.{looksAhead, judgedBy, judgedOf, taken-of, valueAt}
 use Rattle.run_moves.specs.declared.Run.{Run}
 use Rattle.run_moves.specs.declared.Step.{Step}
 use Rattle.run_moves.specs.declared.Step.the-variants.{Moved, Blocked}
@@ -197,7 +197,7 @@ module _ (bound most : ℕ) (ws us : List ℕ) (vs m : List ℤ) (ps : List ℕ)
   operation = headOperation (getD ws (run .at) 0)
 
   -- a move that looks at nothing
-  pub turned-quiet : (m′ : List ℤ) (ps′ : List ℕ) (s : Step) → looks operation ≡ false → Answers ws m ps run ends m′ ps′ s → Turned bound most ws us vs i m ps run m′ ps′ s
+  pub turned-quiet : (m′ : List ℤ) (ps′ : List ℕ) (s : Step) → looksAhead operation ≡ false → Answers ws m ps run ends m′ ps′ s → Turned bound most ws us vs i m ps run m′ ps′ s
   turned-quiet m′ ps′ (Moved run′) w a g lent d o h left =
       let s = a g lent d h tt in
       let f = s .0 in
@@ -217,14 +217,14 @@ module _ (bound most : ℕ) (ws us : List ℕ) (vs m : List ℤ) (ps : List ℕ)
       refused-by k ends h (s .0) (s .1, s .2) (quiet-blocked bound most us vs even g lent i d (sym (waits-is h) ∙ w) k o (s .0) left)
 
   -- what comes next is not taken
-  pub turned-judged : (k : ℕ) → looks operation ≡ true → k ≡ judgedOf bound most us i (run .tokens) → (k ≡ 1 → ⊥) → Turned bound most ws us vs i m ps run m ps (Blocked k)
+  pub turned-judged : (k : ℕ) → looksAhead operation ≡ true → k ≡ judgedOf bound most us i (run .tokens) → (k ≡ 1 → ⊥) → Turned bound most ws us vs i m ps run m ps (Blocked k)
   turned-judged k w e z g lent d o h left = subst (λ x. SettlesBy g ws lent x m ps run k) (sym (looked bound most us vs even g lent i d o (sym (waits-is h) ∙ w) left)) (refused bound most us vs even g lent i d k h (e ∙ ap (judgedOf bound most us i) (h .tokens)) z)
 
   module _ (j : 1 ≡ judgedOf bound most us i (run .tokens)) where
     judged-at : (d : Config) → run .tokens ≡ d .tokens → 1 ≡ judgedOf bound most us i (d .tokens)
     judged-at d e = j ∙ ap (judgedOf bound most us i) e
 
-    pub turned-look : (m′ : List ℤ) (ps′ : List ℕ) (s : Step) → looks operation ≡ true → (operation ≡ nothingOperation → ⊥)
+    pub turned-look : (m′ : List ℤ) (ps′ : List ℕ) (s : Step) → looksAhead operation ≡ true → (operation ≡ nothingOperation → ⊥)
         → ((g : Grammar) (lent : Lent) (d : Config) → Held g ws lent m ps run d → Made g ws lent (next g lent (comesTo g (getD us i 0) (getD vs i (pos 0))) d) m ps m′ ps′ s) → Turned bound most ws us vs i m ps run m′ ps′ s
     turned-look m′ ps′ s w z a g lent d o h left = go s (a g lent d h)
       where
@@ -253,7 +253,7 @@ module _ (bound most : ℕ) (ws us : List ℕ) (vs m : List ℤ) (ps : List ℕ)
     -- the read
     pub turned-read : (m′ : List ℤ) (ps′ : List ℕ) (s : Step) → operation ≡ readOperation → getD us i 0 < 64 → T (fourBytes (getD vs i (pos 0))) → Answers ws m ps run (comingOf (getD us i 0) (valueAt ws (getD us i 0) (getD vs i (pos 0)))) m′ ps′ s → Turned bound most ws us vs i m ps run m′ ps′ s
     turned-read m′ ps′ s e small four a =
-        turned-look m′ ps′ s (ap looks e) (λ z. omega (arith, e, z))
+        turned-look m′ ps′ s (ap looksAhead e) (λ z. omega (arith, e, z))
         (λ g lent d h.
         let same = comes-is (h .begins) (getD us i 0) (getD vs i (pos 0)) small four in
         let ok = subst (IsAhead g) (sym same) (comes-ahead (h .begins) (getD us i 0) (getD vs i (pos 0)) small four) in
@@ -262,7 +262,7 @@ module _ (bound most : ℕ) (ws us : List ℕ) (vs m : List ℤ) (ps : List ℕ)
     -- the predict, which sees no value
     pub turned-predict : (m′ : List ℤ) (ps′ : List ℕ) (s : Step) → operation ≡ predictOperation → getD us i 0 < 64 → ((l : Coming) → asLook l ≡ lookOf (getD us i 0) → Answers ws m ps run l m′ ps′ s) → Turned bound most ws us vs i m ps run m′ ps′ s
     turned-predict m′ ps′ s e small a =
-        turned-look m′ ps′ s (ap looks e) (λ z. omega (arith, e, z))
+        turned-look m′ ps′ s (ap looksAhead e) (λ z. omega (arith, e, z))
         (λ g lent d h.
         let l = comesTo g (getD us i 0) (pos 0) in
         let x = hand-nonterminal h e in
@@ -277,7 +277,7 @@ module _ (bound most : ℕ) (ws us : List ℕ) (vs m : List ℤ) (ps : List ℕ)
     turned-more e z g lent d o h left =
         let look = comesTo g (getD us i 0) (getD vs i (pos 0)) in
         let token : eqb (getD us i 0) endNumber ≡ false = ne-eqb (getD us i 0) endNumber z in
-        let w : waits (d .frames) ≡ true = sym (waits-is h) ∙ ap looks e in
+        let w : waits (d .frames) ≡ true = sym (waits-is h) ∙ ap looksAhead e in
         let n : waits (d .frames) && isDone look (d .tokens) d ≡ false = ap (λ b. waits (d .frames) && isDone (comesIf b g (getD us i 0) (getD vs i (pos 0))) (d .tokens) d) token ∙ (ap (λ b. waits (d .frames) && b) (le-ltb (d .tokens) (d .tokens) (omega arith)) ∙ and-false (waits (d .frames))) in
         let k : next g lent look d ≡ blocked 21 = blocked-over h look e ∙ ap (λ b. blocked (unexpected (asLook (comesIf b g (getD us i 0) (getD vs i (pos 0)))))) token in
         (d, look-blocked bound most us vs even g lent i d o w left (judged-at d (h .tokens)) n 21 k, h)
@@ -285,7 +285,7 @@ module _ (bound most : ℕ) (ws us : List ℕ) (vs m : List ℤ) (ps : List ℕ)
     -- and the end is what it waits for
     pub turned-over : operation ≡ nothingOperation → getD us i 0 ≡ endNumber → length us ≤ suc i → Turned bound most ws us vs i m ps run m ps (Blocked 0)
     turned-over e z l g lent d o h left =
-        let w : waits (d .frames) ≡ true = sym (waits-is h) ∙ ap looks e in
+        let w : waits (d .frames) ≡ true = sym (waits-is h) ∙ ap looksAhead e in
         let v = getD vs i (pos 0) in
         let n : waits (d .frames) && isDone (comesTo g (getD us i 0) v) (d .tokens) d ≡ true = ap (λ b. waits (d .frames) && isDone (comesIf b g (getD us i 0) v) (d .tokens) d) (eq-eqb (getD us i 0) endNumber z) ∙ ap₂ _&&_ w (sym (finished-is h) ∙ eq-eqb operation nothingOperation e) in
         (d, look-over bound most us vs even g lent i d o w left (judged-at d (h .tokens)) n l, h)

@@ -10,7 +10,7 @@ ghost use Rattle.theory_program.specs.Parts.{headOperation};
 ghost use Rattle.run_next_token.specs.Operations.{Running};
 ghost use Rattle.run_next_token.specs.Turns.{Fed, Turned, Stays};
 ghost use Rattle.run_moves.specs.Moves.{passed};
-ghost use Rattle.run_next_token.specs.Reading.{barely, plainly, ReadsOn, Reads};
+ghost use Rattle.run_next_token.specs.Reading.{isPlainRead, canReadPlain, ReadsOn, Reads};
 ghost use Rattle.run_next_token.specs.Following.{countBy, Within, Follow};
 use limits::END;
 use limits::MOVES_LIMIT;
@@ -25,7 +25,7 @@ const READ: u32 = operations::READ as u32;
 // Whether the read of a token that brings no value stands at `at`.
 fn is_plain_read(program: &[u32], at: usize, look: usize) -> bool
     requires { ⌜ (at < length (now program)) × (8 < length (now program)) × (look < 64) ⌝ }
-    ensures { λ r. ⌜ r ≡ barely (now (program .entry)) at look ⌝ }
+    ensures { λ r. ⌜ r ≡ isPlainRead (now (program .entry)) at look ⌝ }
 {
     let read = program_parts::head(READ, look as u32);
     if run_moves::word_at(program, at) != read as usize {
@@ -37,7 +37,7 @@ fn is_plain_read(program: &[u32], at: usize, look: usize) -> bool
 // The same of what is at hand, where a move is left for it.
 fn can_read_plain(program: &[u32], run: Run, look: usize) -> bool
     requires { ⌜ (run .at < length (now program)) × (8 < length (now program)) × (look < 64) ⌝ }
-    ensures { λ r. ⌜ r ≡ plainly (now (program .entry)) run look ⌝ }
+    ensures { λ r. ⌜ r ≡ canReadPlain (now (program .entry)) run look ⌝ }
 {
     if is_plain_read(program, run.at, look) {
         return run.moves != MOVES_LIMIT;

@@ -12,7 +12,7 @@ use Rattle.run_turn.specs.declared.Onward.{Onward}
 use Rattle.run_turn.specs.declared.Onward.the-variants.{Going, Over}
 use Rattle.run_turn.specs.Stages.{TurnsOn}
 use Rattle.run_machine.specs.declared.Ended as Ended
-use Rattle.run_machine.specs.Feeding.{TakesAll}
+use Rattle.run_machine.specs.Feeding.{TakesTokens}
 use Rattle.run_machine.specs.Flows.{Flows, flows-start, not-begun, flows-held, flows-counts, flows-on, flows-ended}
 use Rattle.run_machine.proofs.take_tokens.Statement.{statement}
 use Rattle.run_machine.proofs.take_tokens.Tie as tie
@@ -40,7 +40,7 @@ answered c t e = subst (Answered c (c .turn .last .0) (c .turn .last .1 .0)) e (
 
 -- what all is to be
 abbrev All : tie.Start Inv-loop μ-loop → List ℤ → List ℕ → Ended.Ended → Type 0
-All s m ps e = let a = s .args in TakesAll (a .bound) (a .most) (now (a .program)) (now (a .kinds)) (now (a .values)) (now (a .registers)) (now (a .places)) (a .run) m ps e
+All s m ps e = let a = s .args in TakesTokens (a .bound) (a .most) (now (a .program)) (now (a .kinds)) (now (a .values)) (now (a .registers)) (now (a .places)) (a .run) m ps e
 
 judged-requires : tie.Need-judged-requires Inv-loop μ-loop
 judged-requires c κs = omega arith

@@ -4,7 +4,7 @@ use borrow.Author.Needs.{needs}
 use denote.Ref.{now}
 use Rattle.meaning.specs.Machine.{ends}
 use Rattle.run_moves.specs.declared.Step.the-variants.{Blocked}
-use Rattle.run_looking.specs.Judging.{looks}
+use Rattle.run_looking.specs.Judging.{looksAhead}
 use Rattle.run_next_token.specs.Operations.{blocked-limit, limit-answers}
 use Rattle.run_next_token.specs.Turns.{turned-judged, turned-look, turned-quiet}
 use Rattle.run_next_token.proofs.at_limit.Statement.{statement}
@@ -32,7 +32,7 @@ returns-2 c = λ ws m ps vs f e.
     let s = k .before .before .before in
     let a = s .args in
     let j = c .before .judged in
-    let looking = ap looks e ∙ (sym (k .looks-ahead .ensures) ∙ c .before .before .if2 .taken) in
+    let looking = ap looksAhead e ∙ (sym (k .looks-ahead .ensures) ∙ c .before .before .if2 .taken) in
     turned-judged (a .limits .bound) (a .limits .most) ws (now (a .kinds)) vs m ps (a .run) (index s) (f .even) (j .result) looking (j .ensures) (c .if3 .taken)
 
 returns-3 : tie.Need-returns-3
@@ -41,7 +41,7 @@ returns-3 c = λ ws m ps vs f e.
     let s = k .before .before .before in
     let a = s .args in
     let j = c .before .judged in
-    let looking = ap looks e ∙ (sym (k .looks-ahead .ensures) ∙ c .before .before .if2 .taken) in
+    let looking = ap looksAhead e ∙ (sym (k .looks-ahead .ensures) ∙ c .before .before .if2 .taken) in
     turned-look (a .limits .bound) (a .limits .most) ws (now (a .kinds)) vs m ps (a .run) (index s) (f .even) (sym (c .if3 .left) ∙ j .ensures) m ps (Blocked 35) looking (λ z. k .before .if1 .left (sym e ∙ z))
     (λ g lent d h. (blocked-limit h _ (λ z. k .before .if1 .left (sym e ∙ z)) (s .pre .1), refl, refl))
 
@@ -50,7 +50,7 @@ returns-4 c = λ ws m ps vs f e.
     let k = c .before in
     let s = k .before .before .before in
     let a = s .args in
-    let quiet = ap looks e ∙ (sym (k .looks-ahead .ensures) ∙ c .if2 .left) in
+    let quiet = ap looksAhead e ∙ (sym (k .looks-ahead .ensures) ∙ c .if2 .left) in
     turned-quiet (a .limits .bound) (a .limits .most) ws (now (a .kinds)) vs m ps (a .run) (index s) (f .even) m ps (Blocked 35) quiet (limit-answers (λ z. k .before .if1 .left (sym e ∙ z)) (s .pre .1) ends)
 
 pub at-limit-spec : {M : Type 1} → statement M

@@ -12,7 +12,7 @@ use Rattle.run_looking.specs.Judging.{judged-taken}
 use Rattle.run_moves.specs.declared.Run.{Run}
 use Rattle.run_moves.specs.Held.{bounds}
 use Rattle.run_next_token.specs.Operations.{Running}
-use Rattle.run_next_token.specs.Reading.{barely}
+use Rattle.run_next_token.specs.Reading.{isPlainRead}
 use Rattle.run_next_token.specs.Following.{afterReads, passedBy, Within, FollowBy, follow-none, follow-more}
 use Rattle.run_next_token.proofs.behind_reads.Statement.{statement}
 use Rattle.run_next_token.proofs.behind_reads.Tie as tie
@@ -105,8 +105,8 @@ loop-again c =
           let is : l .loop .i ≡ first l + n = v .1 in
           let at : l .loop .at ≡ run .at + n = omega (arith, v .0, e) in
           let low : getD us (first l + n) 0 < a .limits .bound = omega (arith, ap (λ x. getD us x 0) is, c .before .before .if1 .left) in
-          let bare : barely (now (a .program)) (run .at + n) (getD us (first l + n) 0) ≡ true =
-          sym (ap (λ x. barely (now (a .program)) x (getD us (first l + n) 0)) at) ∙ (sym (ap (λ x. barely (now (a .program)) (l .loop .at) (getD us x 0)) is) ∙ (sym (c .before .is-plain-read .ensures) ∙ not-false (c .before .is-plain-read .result) (c .if2 .left))) in
+          let bare : isPlainRead (now (a .program)) (run .at + n) (getD us (first l + n) 0) ≡ true =
+          sym (ap (λ x. isPlainRead (now (a .program)) x (getD us (first l + n) 0)) at) ∙ (sym (ap (λ x. isPlainRead (now (a .program)) (l .loop .at) (getD us x 0)) is) ∙ (sym (c .before .is-plain-read .ensures) ∙ not-false (c .before .is-plain-read .result) (c .if2 .left))) in
           subst (FollowBy (a .limits .bound) (a .limits .most) (now (a .program)) us (first l) run) (omega (arith, v .0))
           (follow-more (a .limits .bound) (a .limits .most) (now (a .program)) us (first l) run n (judged-taken (a .limits .bound) (a .limits .most) us (first l + n) (run .tokens + n) (k .0) (k .1) low) (omega (arith, low, start l .pre .0 .1 .2 .few)) bare (k .2) (v .2 run e w)),
     )

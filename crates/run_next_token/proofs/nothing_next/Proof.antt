@@ -4,7 +4,7 @@ use mathlib.Core.Path.{_≡_, sym, ap, _∙_}
 use lib.ListN.{length, getD}
 use borrow.Author.Needs.{needs}
 use denote.Ref.{now}
-use Rattle.run_looking.specs.Judging.{looks}
+use Rattle.run_looking.specs.Judging.{looksAhead}
 use Rattle.run_looking.specs.Judging.{judgedOf, taken-of}
 use Rattle.run_next_token.specs.Turns.{turned-judged, turned-over, turned-more}
 use Rattle.run_next_token.proofs.nothing_next.Statement.{statement}
@@ -32,7 +32,7 @@ returns c = λ ws m ps vs f e.
     let s = c .before .before .before in
     let a = s .args in
     let j = c .before .judged in
-    turned-judged (a .limits .bound) (a .limits .most) ws (now (a .kinds)) vs m ps (a .run) (index s) (f .even) (j .result) (ap looks e) (j .ensures) (c .if1 .taken)
+    turned-judged (a .limits .bound) (a .limits .most) ws (now (a .kinds)) vs m ps (a .run) (index s) (f .even) (j .result) (ap looksAhead e) (j .ensures) (c .if1 .taken)
 
 sub-i : tie.Need-sub-i
 sub-i c = search needs

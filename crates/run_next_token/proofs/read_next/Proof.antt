@@ -4,7 +4,7 @@ use mathlib.Core.Path.{_≡_, sym, ap, _∙_, subst}
 use lib.ListN.{length, getD}
 use borrow.Author.Needs.{needs}
 use denote.Ref.{now}
-use Rattle.run_looking.specs.Judging.{looks}
+use Rattle.run_looking.specs.Judging.{looksAhead}
 use lib.IntN.{pos}
 use mir.Facts.{toZ-ofZ}
 use borrow.Author.Needs.{sfits-of}
@@ -47,7 +47,7 @@ returns c =
     let a = s .args in
     let j = c .before .judged in
     turned-judged (a .limits .bound) (a .limits .most) (now (a .program)) (now (a .kinds)) (now (a .values)) (now (a .registers)) (now (a .places)) (a .run) (index s) (s .pre .0 .even)
-    (j .result) (ap looks (s .pre .1)) (j .ensures) (c .if1 .taken)
+    (j .result) (ap looksAhead (s .pre .1)) (j .ensures) (c .if1 .taken)
 
 sub-i : tie.Need-sub-i
 sub-i c = c .before .before .before .before .before .before .before .pre .3

@@ -6,12 +6,12 @@ use borrow.Author.Needs.{needs}
 use Rattle.theory_program.specs.Addresses.{segment-at}
 use Rattle.theory_program.specs.WordsStand.{stands-within}
 use Rattle.run_moves.specs.Held.{bounds}
-use Rattle.run_next_token.specs.Reading.{plainly, plain-of, reaches-none, turned-reaches, turned-plain}
+use Rattle.run_next_token.specs.Reading.{canReadPlain, plain-of, reaches-none, turned-reaches, turned-plain}
 use Rattle.run_next_token.proofs.read_on.Statement.{statement}
 use Rattle.run_next_token.proofs.read_on.Tie as tie
 
 -- the read is at hand
-at-hand : (c : tie.Then1) → (let a = c .before .before .before .before .args in plainly (now (a .program)) (a .run) (a .look) ≡ true)
+at-hand : (c : tie.Then1) → (let a = c .before .before .before .before .args in canReadPlain (now (a .program)) (a .run) (a .look) ≡ true)
 at-hand c = sym (c .before .can-read-plain .ensures) ∙ c .if1 .taken
 
 can-read-plain-requires : tie.Need-can-read-plain-requires
@@ -37,7 +37,7 @@ returns c = λ bound most us vs rs i even j e.
     let s = t .before .before .before .before in
     let a = s .args in
     turned-reaches (turned-plain bound most (now (a .program)) us vs rs (now (a .places)) (a .run) i even j (omega (arith, e, s .pre .1))
-    (ap (plainly (now (a .program)) (a .run)) e ∙ at-hand t) (c .before .before .read-plain .ensures rs))
+    (ap (canReadPlain (now (a .program)) (a .run)) e ∙ at-hand t) (c .before .before .read-plain .ensures rs))
 
 returns-2 : tie.Need-returns-2
 returns-2 c = λ bound most us vs rs i even j e. reaches-none

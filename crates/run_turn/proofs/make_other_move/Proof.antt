@@ -12,7 +12,7 @@ use Rattle.meaning.specs.Program.{readOperation, predictOperation, testOperatio
 use Rattle.meaning.specs.Machine.{ends, movesLimit}
 use Rattle.run_moves.specs.declared.Step.{Step}
 use Rattle.run_moves.specs.Held.{ReadyForMove, Answers, bounds}
-use Rattle.run_looking.specs.Judging.{looks}
+use Rattle.run_looking.specs.Judging.{looksAhead}
 use Rattle.run_next_token.specs.Operations.{number-most}
 use Rattle.run_next_token.specs.Turns.{Turned, turned-quiet}
 use Rattle.run_turn.specs.Stages.{Passes, Low, none, passes-turned}
@@ -37,14 +37,14 @@ ready : (c : tie.Else1) (k : ℕ) → c .before .before .operation .result ≡ k
 ready c k e = let r = start c .pre .0 .running in record { grammar = r .grammar; lent = r .lent; config = r .config; held = r .held; limit = below-limit c; operation = operation c k e }
 
 -- a move that looks at nothing
-quiet : (c : tie.Else1) (k : ℕ) (m : List ℤ) (ps : List ℕ) (t : Step) → c .before .before .operation .result ≡ k → looks k ≡ false
+quiet : (c : tie.Else1) (k : ℕ) (m : List ℤ) (ps : List ℕ) (t : Step) → c .before .before .operation .result ≡ k → looksAhead k ≡ false
     → (let a = start c .args in Answers (now (a .program)) (now (a .registers)) (now (a .places)) (a .run) ends m ps t)
     → (let a = start c .args in let l = a .limits in Turned (l .bound) (l .most) (now (a .program)) (now (a .kinds)) (now (a .values)) (a .run .tokens - l .from) (now (a .registers)) (now (a .places)) (a .run) m ps t)
 quiet c k m ps t e q r =
     let s = start c in
     let a = s .args in
     let l = a .limits in
-    turned-quiet (l .bound) (l .most) (now (a .program)) (now (a .kinds)) (now (a .values)) (now (a .registers)) (now (a .places)) (a .run) (a .run .tokens - l .from) (s .pre .0 .even) m ps t (ap looks (operation c k e) ∙ q) r
+    turned-quiet (l .bound) (l .most) (now (a .program)) (now (a .kinds)) (now (a .values)) (now (a .registers)) (now (a .places)) (a .run) (a .run .tokens - l .from) (s .pre .0 .even) m ps t (ap looksAhead (operation c k e) ∙ q) r
 
 -- a stage that made its move
 abbrev Passed : tie.Start → List ℤ → List ℕ → Step → Type 0

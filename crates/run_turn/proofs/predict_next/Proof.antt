@@ -6,7 +6,7 @@ use lib.IntN.{ℤ}
 use lib.ListN.{length, getD}
 use borrow.Author.Needs.{needs}
 use denote.Ref.{now}
-use Rattle.run_looking.specs.Judging.{looks, judgedOf, taken-of}
+use Rattle.run_looking.specs.Judging.{looksAhead, judgedOf, taken-of}
 use Rattle.run_moves.specs.declared.Run.{Run}
 use Rattle.run_moves.specs.declared.Step.{Step}
 use Rattle.run_moves.specs.declared.Step.the-variants.{Moved, Blocked}
@@ -44,7 +44,7 @@ returns c =
     let s = c .before .before .before .before .before .before in
     let a = s .args in
     let j = c .before .judged in
-    ((λ vs even. turned-judged (a .limits .bound) (a .limits .most) (now (a .program)) (now (a .kinds)) vs (now (a .registers)) (now (a .places)) (a .run) (index s) even (j .result) (ap looks (s .pre .1)) (j .ensures) (c .if1 .taken)), s .pre .4)
+    ((λ vs even. turned-judged (a .limits .bound) (a .limits .most) (now (a .program)) (now (a .kinds)) vs (now (a .registers)) (now (a .places)) (a .run) (index s) even (j .result) (ap looksAhead (s .pre .1)) (j .ensures) (c .if1 .taken)), s .pre .4)
 
 sub-i : tie.Need-sub-i
 sub-i c = c .before .before .before .before .before .before .before .before .pre .3

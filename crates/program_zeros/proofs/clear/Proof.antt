@@ -3,8 +3,8 @@ use Rattle.program_body_words.specs.Waiting as L
 use Prim.Native.Nat.{_≤_, _-_}
 use lib.ListN.{replicate}
 use Rattle.program_block_words.specs.Patch.{Onward, onward-start}
-use Rattle.program_body_counts.proofs.clear.Statement.{statement}
-use Rattle.program_body_counts.proofs.clear.Tie as tie
+use Rattle.program_zeros.proofs.clear.Statement.{statement}
+use Rattle.program_zeros.proofs.clear.Tie as tie
 
 abbrev Inv-loop : tie.InvT-loop
 Inv-loop area₀ from to at₀ area at = (from ≤ at) × (at ≤ to) × Onward area₀ from (replicate (to - from) 0) area at (replicate (to - at) 0)
