@@ -54,7 +54,7 @@ pub struct Front {
     pub heads: NonterminalSet,
 }
 
-// That of production k.
+// The front of production k's right side.
 fn front_of(rows: &[u8; ROWS], k: usize, null: NonterminalSet) -> Front
     requires { ⌜ Imaged (now rows) k ⌝ }
     ensures { λ r. ⌜ FrontOf (members (null .0)) (rightAt (now (rows .entry)) k) (r .token .0) (r .heads .0) ⌝ }
@@ -85,7 +85,7 @@ fn front_of(rows: &[u8; ROWS], k: usize, null: NonterminalSet) -> Front
     }
 }
 
-// Both of all productions, by left sides: the nonterminals as edges, the tokens as sets.
+// The fronts of all productions, by left sides: their nonterminals as edges, their tokens as sets.
 fn edges_of(
     rows: &[u8; ROWS],
     count: usize,

@@ -116,7 +116,7 @@ fn behind_by(
     }
 }
 
-// The same for all productions.
+// The walks along the right sides of all productions: what comes after each nonterminal, and the edges from it to left sides.
 fn behinds(
     rows: &[u8; ROWS],
     count: usize,

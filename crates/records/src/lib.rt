@@ -134,7 +134,7 @@ impl State {
         self.with_kind(Kind::Inner(registers, places))
     }
 
-    // As of a run alone.
+    // The state as of a run alone.
     pub fn alone(self) -> State
         ensures { λ r. ⌜ r ≡ withKind Outer self ⌝ }
     {

@@ -34,7 +34,7 @@ fn is_plain_read(program: &[u32], at: usize, look: usize) -> bool
     !program_parts::in_set(program, program_parts::CARRIERS, look)
 }
 
-// The same of what is at hand, where a move is left for it.
+// Whether the read of a token that brings no value is at hand, and a move is left for it.
 fn can_read_plain(program: &[u32], run: Run, look: usize) -> bool
     requires { ⌜ (run .at < length (now program)) × (8 < length (now program)) × (look < 64) ⌝ }
     ensures { λ r. ⌜ r ≡ canReadPlain (now (program .entry)) run look ⌝ }

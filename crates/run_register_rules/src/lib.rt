@@ -83,7 +83,7 @@ fn common_word(word: u32) -> bool
     function == 7
 }
 
-// The same of the rule at `at`.
+// Whether the function of the rule at `at` is a common one.
 pub fn is_common(program: &[u32], at: usize) -> bool
     requires { ⌜ at < length (now program) ⌝ }
     ensures { λ r. ⌜ r ≡ common (getD (now (program .entry)) at 0) ⌝ }
@@ -111,7 +111,7 @@ fn direct(registers: &[i64], height: usize, word: u32, constant: u32) -> i64
     value_functions::sum(a, value::constant(constant))
 }
 
-// The same of a rule of any function.
+// The value of a rule of any function by its two words; the mark where it is out of range.
 fn general(registers: &[i64], height: usize, word: u32, constant: u32) -> i64
     requires { ⌜ (height ≤ length (now registers)) × Applies (stack height (now registers)) word constant ⌝ }
     ensures { λ r. ⌜ r ≡ ranged (apply (readRegister (stack height (now (registers .entry)))) (ruleFrom word constant .function)) ⌝ }

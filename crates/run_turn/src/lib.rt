@@ -57,7 +57,7 @@ fn evaluate_if_at_hand(registers: &mut [i64], program: &[u32], run: Run) -> Step
     run_rules::evaluate(registers, program, run)
 }
 
-// Both, one after the other.
+// The add and the evaluate, where they are at hand, one after the other.
 fn add_and_evaluate(registers: &mut [i64], program: &[u32], run: Run) -> Onward
     requires { ⌜ ((ps : List ℕ) × Running (now program) (now registers) ps run) ⌝ }
     ensures { λ r. ⌜ Prepared (now (program .entry)) (now (registers .entry)) run (now (registers .exit)) r ⌝ }

@@ -201,7 +201,7 @@ fn place_right(
     Right { known: true, word }
 }
 
-// The same, with the words of the left side.
+// The row of production p and the word of its right side, with the words at all its positions, that of the left side among them.
 pub fn read_right(
     rows: &mut [u8; ROWS],
     p: usize,

@@ -124,7 +124,7 @@ fn is_range(inputs: &[u16; POSITIONS], body: &[u8]) -> bool
     table_rule_conditions::in_order(table_rules::four_at(body, 3), table_rules::four_at(body, 7))
 }
 
-// The same of a comparison, of kind 1 or 2.
+// True only of the body of a comparison, of kind 1 or 2, that nothing is wrong with but perhaps its number.
 fn is_comparison(inputs: &[u16; POSITIONS], body: &[u8]) -> bool
     requires { ⌜ (1 ≤ byte (now body) 0) × (byte (now body) 0 ≤ 2) × (length (now body) ≡ 4 * byte (now body) 0 + 1) ⌝ }
     ensures { λ r. ⌜ (r ≡ true → ConditionSound (now (inputs .entry)) (now (body .entry))) ⌝ }
