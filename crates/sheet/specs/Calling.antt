@@ -3,8 +3,7 @@ use Prim.Native.Nat.{ℕ, _+_, _≤_, _<_}
 use native.Mathlib.Omega.{arith}
 use mathlib.Core.Path.{_≡_, refl, sym, subst}
 use mathlib.Core.List.{List}
-use lib.ListN.{length, getD, take}
-use lib.Seq.{length-take-le}
+use lib.ListN.{length, getD}
 use lib.Dec.{T}
 use lib.IntN.{ℤ, pos}
 use native.Mathlib.Decide.{decLt}
@@ -44,11 +43,6 @@ four-more vs i h t j l = go (decLt j i)
 
 pub four-all : (vs : List ℤ) (i : ℕ) → FourTo vs i → length vs ≤ i → T (all fourBytes vs)
 four-all vs i h l = at-all fourBytes (pos 0) vs (λ j k. h j (omega (arith, k, l)))
-
--- ---- slices of arrays
-
-pub cut : {A : Type 0} (n m : ℕ) (xs : List A) → length xs ≡ m → n ≤ m → n ≡ length (take n xs)
-cut n m xs e l = sym (length-take-le n xs (omega (arith, e, l)))
 
 pub walks-as : (ws ks : List ℕ) (vs : List ℤ) (a b a′ b′ : ℕ) (before after : List ℕ) (r : Answer.Answer) → a ≡ a′ → b ≡ b′ → SegmentDone ws ks vs a b before after r → SegmentDone ws ks vs a′ b′ before after r
 walks-as ws ks vs a b a′ b′ before after r e f w = subst (λ x. SegmentDone ws ks vs a′ x before after r) f (subst (λ x. SegmentDone ws ks vs x b before after r) e w)

@@ -104,9 +104,6 @@ pub record Walking (ws ks : List ℕ) (vs m : List ℤ) (ps : List ℕ) (run : R
   pub held : Held grammar ws lent m ps run config
   pub stand : Stand grammar (tokensAs grammar ks vs) node below config
 
-pub stood : {ws ks : List ℕ} {vs m : List ℤ} {ps : List ℕ} {run : Run} → Walking ws ks vs m ps run → Stood ws m ps run
-stood {ks = ks} {vs = vs} w = record { grammar = w .grammar; lent = w .lent; tokens = tokensAs (w .grammar) ks vs; known = leaves-of (w .grammar) ks vs (w .four); config = w .config; node = w .node; below = w .below; held = w .held; stand = w .stand }
-
 pub running-of : {ws ks : List ℕ} {vs m : List ℤ} {ps : List ℕ} {run : Run} → Walking ws ks vs m ps run → Running ws m ps run
 running-of w = record { grammar = w .grammar; lent = w .lent; config = w .config; held = w .held }
 

@@ -51,9 +51,6 @@ module _ (g : Grammar) (m : Stacks) where
   abbrev openBy : Bool → Bool → Called
   openBy a b = elim a [ true ↦ asBrought (refused 31 0) closedRecord m | false ↦ elim b [ true ↦ asBrought (refused 32 0) closedRecord m | false ↦ opened ] ]
 
-  abbrev narrow : Bool
-  narrow = ltb (lentOf m .maxRegisters) (length (opening g .registers))
-
   abbrev flat : Bool
   flat = ltb (lentOf m .maxPlaces) 1
 

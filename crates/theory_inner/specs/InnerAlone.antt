@@ -9,7 +9,7 @@ use Rattle.meaning.specs.Grammar.{Grammar}
 use Rattle.meaning.specs.Rules.{WellFormed}
 use Rattle.meaning.specs.Table.{grammarOf}
 use Rattle.meaning.specs.Value.{mark}
-use Rattle.meaning.specs.Calls.{waiting, closed, Kind, inner, Record, Stacks, Called, Answer, more, value, refused, tableRefused, asBrought}
+use Rattle.meaning.specs.Calls.{waiting, closed, inner, Record, Stacks, Called, Answer, more, value, refused, tableRefused, asBrought}
 use Rattle.meaning.specs.PublicCalls.{Checked, usable, unusable, check, Call, feed, finish, callOf, areaLength, written, Effect, effect, performs}
 use Rattle.meaning_inner.specs.Inner.{above, paste, cleared, withStatus, withKind, InnerCalled, handedBack, InnerCall, engine, giveUp, engineCall, onStretch, ends, afterInner, innerOf, InnerEffect, innerEffect, innerPerforms}
 use Rattle.meaning_inner.specs.InnerLists.{Alone, Both, bothOf}
@@ -40,12 +40,6 @@ closed-call g t n h p m finish = refl
 -- ---- over the outer run that stopped on m with these numbers; the cells above its heights are cleared
 
 module _ (t₀ n₀ rh ph : ℕ) (m : Stacks) where
-  abbrev pub outside : Record
-  outside = open-record t₀ n₀ rh ph
-
-  abbrev pub start : Kind
-  start = inner rh ph
-
   pub data BesideAlone : Both → Alone → Type 0 where
     stands : (t n h p : ℕ) (part : Stacks) → Fills (inner rh ph) m part
         → BesideAlone (record { outerState = withStatus waiting (open-record t₀ n₀ rh ph); innerState = withKind (inner rh ph) (open-record t n h p); stacks = paste (inner rh ph) part m }) (record { state = open-record t n h p; stacks = part })
