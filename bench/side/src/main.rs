@@ -95,6 +95,7 @@ fn run_round(clock: &Clock, e: &Engine, w: &Workload, m: &mut Memory, calls: usi
             let empty = clock.time(calls, || e.feed(t, m, &[], &[]));
             (clock.time(1, || e.feed(t, m, &w.tokens, &w.values)), empty)
         }
+        Work::Short => (clock.time(1, || e.feed(t, m, &w.tokens, &w.values)), 0.0),
         Work::Single => {
             let feeds = || {
                 for (tokens, values) in w.tokens.chunks(1).zip(w.values.chunks(1)) {

@@ -70,16 +70,38 @@ fn handing_on(t: &mut Vec<u8>, left: u8, children: u8, n: u8) {
     }
 }
 
-/// A wide tree of words: each word is a nonterminal that adds 1 to what it is handed.
-pub fn wide(widths: &[u8]) -> Vec<u8> {
+/// The same tokens, of so many kinds in no order.
+pub fn tree_of_kinds(widths: &[u8], kinds: u8) -> Vec<u8> {
+    let mut state = 1u32;
+    let mut kind = || {
+        state = state.wrapping_mul(1_664_525).wrapping_add(1_013_904_223);
+        ((state >> 16) % kinds as u32) as u8
+    };
+    tree_segment(widths).iter().map(|_| kind()).collect()
+}
+
+/// A wide tree of words of so many kinds: each word is a nonterminal that adds 1 to what it is handed, with an alternative for each kind.
+fn wide_by(widths: &[u8], terminals: u8, kinds: u8) -> Vec<u8> {
     let levels = widths.len() as u8;
-    let mut t = headed(3, levels + 1, &[0], 1);
+    let mut t = headed(terminals, levels + 1, &[0], 1);
     for (left, &width) in (1..).zip(widths) {
         handing_on(&mut t, left, width, 1);
     }
-    field(&mut t, 3, &[levels + 1, 1, 0]);
-    field(&mut t, 4, &[0, 2, 7, 0, 1, 0, 0, 0, 1]);
+    for kind in 0..kinds {
+        field(&mut t, 3, &[levels + 1, 1, kind]);
+        field(&mut t, 4, &[0, 2, 7, 0, 1, 0, 0, 0, 1]);
+    }
     t
+}
+
+/// A wide tree of words of one kind.
+pub fn wide(widths: &[u8]) -> Vec<u8> {
+    wide_by(widths, 3, 1)
+}
+
+/// A wide tree of words of several kinds.
+pub fn wide_of_kinds(widths: &[u8], kinds: u8) -> Vec<u8> {
+    wide_by(widths, kinds, kinds)
 }
 
 /// The same tree with plain tokens in its lowest nodes: nearly nothing but reads.

@@ -16,6 +16,8 @@ pub enum Work {
     Empty,
     /// The feed of the segment, less a feed without tokens just before it.
     Feed,
+    /// The feed of the segment, as a call.
+    Short,
     /// The segment, one token a feed.
     Single,
     /// The finish behind the feed of the segment.
@@ -44,6 +46,7 @@ fn workload(work: Work, name: &str, table: Vec<u8>, tokens: Vec<u8>, lent: (usiz
         Work::Open => "open",
         Work::Empty => "empty feed",
         Work::Feed => "moves",
+        Work::Short => "feed",
         Work::Single => "one token a feed",
         Work::Finish => "finish",
     };
@@ -54,11 +57,15 @@ fn workload(work: Work, name: &str, table: Vec<u8>, tokens: Vec<u8>, lent: (usiz
 fn feeds() -> Vec<Workload> {
     let feed = |name, table, tokens, lent| workload(Work::Feed, name, table, tokens, lent, 0);
     let tree = tables::tree_segment(&tables::WIDTHS);
+    let mixed =
+        |name, kinds| feed(name, tables::wide_of_kinds(&tables::WIDTHS, kinds), tables::tree_of_kinds(&tables::WIDTHS, kinds), SMALL);
     vec![
         feed("1,021 words", samples::words(), vec![0; 1021], CAPS),
         feed("words and tags, 1,000 tokens", samples::words(), [0, 1, 0, 2].repeat(250), CAPS),
         feed("words that carry their lengths, 1,021", samples::lengths(), vec![0; 1021], CAPS),
         feed("words in a wide tree", tables::wide(&tables::WIDTHS), tree.clone(), SMALL),
+        mixed("words of 2 kinds in no order, wide tree", 2),
+        mixed("words of 16 kinds in no order, wide tree", 16),
         feed("reads in a wide tree", tables::reads(&tables::WIDTHS), tree.clone(), SMALL),
         feed("brackets 1,020 deep", samples::brackets(), samples::brackets_segment(1020), CAPS),
         feed("brackets 510 deep, 4 + 4 attributes", tables::brackets_of_eight(), samples::brackets_segment(510), CAPS),
@@ -70,6 +77,7 @@ fn calls() -> Vec<Workload> {
     let call = |work, name, table, tokens: usize, lent| workload(work, name, table, vec![0; tokens], lent, 0);
     let (wide, ruled) = (tables::wide(&tables::WIDTHS), tables::ruled(&tables::WIDTHS));
     vec![
+        call(Work::Short, "20 words, 64 registers and 32 places", samples::words(), 20, (64, 32)),
         call(Work::Single, "wide tree, small stacks", wide.clone(), 100, SMALL),
         call(Work::Single, "wide tree, all cells", wide.clone(), 100, CAPS),
         call(Work::Single, "words, all cells", samples::words(), 100, CAPS),

@@ -35,7 +35,7 @@ fn is_plain_read(program: &[u32], at: usize, look: usize) -> bool
 }
 
 // Whether the read of a token that brings no value is at hand, and a move is left for it.
-fn can_read_plain(program: &[u32], run: Run, look: usize) -> bool
+pub fn can_read_plain(program: &[u32], run: Run, look: usize) -> bool
     requires { ⌜ (run .at < length (now program)) × (8 < length (now program)) × (look < 64) ⌝ }
     ensures { λ r. ⌜ r ≡ canReadPlain (now (program .entry)) run look ⌝ }
 {

@@ -12,7 +12,7 @@ use borrow.Author.Tests.{lt-ltb, le-ltb, eq-eqb}
 use Rattle.meaning.specs.Limits.{productionsLimit}
 use Rattle.meaning.specs.Base.{In, all, keep, isEmpty, countFrom}
 use Rattle.meaning.specs.Grammar.{Grammar, Condition, nonterminal, productionAt, placeAt}
-use Rattle.meaning.specs.Value.{holds}
+use Rattle.meaning.specs.Value.{holds, mark}
 use Rattle.meaning.specs.Scheme.{expect, entryTests}
 use Rattle.meaning.specs.Sets.{has, starts}
 use Rattle.meaning.specs.Machine.{Config, Lent, Coming, asLook, predict, lookNumber, moved, blocked, step, next, push, unexpected, isOf, alternatives, entered, placeOf, schemeAt, movesLimit, readRegister}
@@ -32,7 +32,7 @@ use Rattle.run_moves.specs.declared.Step.the-variants.{Moved, Blocked}
 use Rattle.run_moves.specs.Laid.{LaidIn, laid-size}
 use Rattle.run_moves.specs.Ahead.{Ahead, ahead-scheme, place-begins}
 use Rattle.run_moves.specs.Held.{Held, Made, Hand, hand-nonterminal, hand-proper, next-is}
-use Rattle.run_moves.specs.Passing.{lookOf, look-number}
+use Rattle.run_moves.specs.Passing.{lookOf, look-number, comingOf, coming-look}
 use Rattle.run_alternatives.specs.Predicting.{recordOf, holdsAt, holds-here, at-record, at-scheme, Leads, Led}
 
 -- the tokens that are counted after a step: a predict counts none
@@ -259,3 +259,17 @@ module _ {g : Grammar} {ws : List ℕ} {lent : Lent} {m : List ℤ} {ps : List �
 
                 below : (run .places ≡ length ps → ⊥) → run .places < length ps
                 below y = omega (arith, l, y)
+
+-- the alternative that the directory's word names, without entry tests
+module _ {g : Grammar} {ws : List ℕ} {lent : Lent} {m : List ℤ} {ps : List ℕ} {run : Run} {c : Config} (h : Held g ws lent m ps run c) (o : headOperation (getD ws (run .at) 0) ≡ predictOperation) (u : ℕ) (small : u < 64) (high : directoryStep ≤ entry h o u small) where
+  pub untested-small : (limit : run .moves < movesLimit) → (1 ≤ directoryNumber (entry h o u small)) × (directoryNumber (entry h o u small) ≤ productionsLimit)
+  untested-small limit =
+      let some = untested-some h o u small high in
+      (omega (arith, some), entering-small h o u small (comingOf u mark) (coming-look u mark) limit some (first h o u small) (untested-found h o u small high) some)
+
+  pub made-untested : run .moves < movesLimit → (ahead : Coming) → asLook ahead ≡ lookOf u → IsAhead g ahead → (p a : ℕ) → p ≡ directoryNumber (entry h o u small) → a ≡ directoryScheme (entry h o u small) → run .places ≤ length ps
+      → Made g ws lent (next g lent ahead c) m ps m (placed (run .places) p ps) (enteredBy run a (length ps))
+  made-untested limit ahead same ok p a number address room =
+      let some = untested-some h o u small high in
+      let scheme = address ∙ (untested-scheme h o u small high ∙ ap (λ j. getD ws (recordOf ws j + 6) 0) (sym number)) in
+      made-entering h o u small ahead same limit some p (number ∙ untested-found h o u small high) (λ e. some (sym number ∙ e)) ok a scheme room

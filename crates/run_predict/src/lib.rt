@@ -28,7 +28,7 @@ fn enter(places: &mut [u32], run: Run, p: usize, at: usize) -> Step
 }
 
 // The alternative that is entered, from the one on that the directory names. 01: "22 .. when alternatives hold the token or the end but none has its entry conditions met".
-fn search(
+pub fn search(
     registers: &[i64],
     places: &mut [u32],
     program: &[u32],
@@ -50,6 +50,18 @@ fn search(
     enter(places, run, p, at)
 }
 
+// The directory's word for the predict at hand and what comes next.
+pub fn entry_at(program: &[u32], run: Run, look: usize) -> usize
+    requires { ⌜ (run .at < length (now program)) × (look < 64) × (9 + 64 * headOperand (getD (now program) (run .at) 0) + look < length (now program)) ⌝ }
+    ensures { λ r. ⌜ r ≡ getD (now (program .entry)) (9 + 64 * headOperand (getD (now (program .entry)) (run .at) 0) + look) 0 ⌝ }
+{
+    let n = program_parts::operand(run_moves::word_at(program, run.at));
+    run_moves::word_at(
+        program,
+        program_parts::DIRECTORY + program_parts::DIRECTORY_WORDS * n + look,
+    )
+}
+
 // Pushes the place of the alternative that the directory names; where that has entry tests, of the one found.
 pub fn predict(
     registers: &[i64],
@@ -61,11 +73,7 @@ pub fn predict(
     requires { ⌜ ReadyForMove (now program) (now registers) (now places) run predictOperation × (look < 64) ⌝ }
     ensures { λ r. ⌜ ((ahead : Coming) → asLook ahead ≡ lookOf look → Answers (now (program .entry)) (now (registers .entry)) (now (places .entry)) run ahead (now (registers .entry)) (now (places .exit)) r) × (tokensOf run r ≡ run .tokens) ⌝ }
 {
-    let n = program_parts::operand(run_moves::word_at(program, run.at));
-    let entry = run_moves::word_at(
-        program,
-        program_parts::DIRECTORY + program_parts::DIRECTORY_WORDS * n + look,
-    );
+    let entry = entry_at(program, run, look);
     if program_parts::DIRECTORY_SCHEME <= entry {
         return enter(
             places,

@@ -1,13 +1,15 @@
 // A turn of the loop over the moves: the add and the evaluate at hand, then the move behind them, with reads that follow it.
-ghost use Prim.Native.Nat.{ℕ, _-_, _≤_, _<_};
+ghost use Prim.Native.Nat.{ℕ, _+_, _-_, _*_, _≤_, _<_};
 ghost use mathlib.Core.Path.{_≡_};
 ghost use mathlib.Core.List.{List};
 ghost use lib.IntN.{ℤ};
 ghost use lib.ListN.{getD, length};
 ghost use Rattle.meaning.specs.Machine as Machine;
 ghost use Rattle.meaning.specs.Program.{addOperation, evaluateOperation, predictOperation};
-ghost use Rattle.theory_program.specs.Parts.{headOperation};
+ghost use Rattle.theory_program.specs.Parts.{headOperation, headOperand, directoryNumber};
+ghost use Rattle.run_moves.specs.Held.{ReadyForMove};
 ghost use Rattle.run_moves.specs.Returns.{Returns};
+ghost use Rattle.run_entering.specs.Predicting.{Predicts};
 ghost use Rattle.run_next_token.specs.Operations.{Running};
 ghost use Rattle.run_next_token.specs.Turns.{Fed, Turned};
 ghost use Rattle.run_turn.specs.Stages.{Passes, Low, Stage, Prepared, TurnsOn};
@@ -73,6 +75,45 @@ fn add_and_evaluate(registers: &mut [i64], program: &[u32], run: Run) -> Onward
 
 // ---- moves that look at what comes next
 
+// The predict of an alternative that is searched for, and the read of the token where it comes next.
+fn search_and_read(
+    registers: &[i64],
+    places: &mut [u32],
+    program: &[u32],
+    run: Run,
+    look: usize,
+    first: usize,
+) -> Step
+    requires { ⌜ (ReadyForMove (now program) (now registers) (now places) run predictOperation × (look < 64)) × ((first ≡ directoryNumber (getD (now program) (9 + 64 * headOperand (getD (now program) (run .at) 0) + look) 0)) × (first ≡ 0 → ⊥)) ⌝ }
+    ensures { λ r. ⌜ Predicts (now (program .entry)) (now (registers .entry)) (now (places .entry)) run look (now (places .exit)) r ⌝ }
+{
+    match run_predict::search(registers, places, program, run, look, first) {
+        Step::Blocked(n) => Step::Blocked(n),
+        Step::Moved(next) => Step::Moved(run_next_token::read_on(places, program, next, look)),
+    }
+}
+
+// The predict by the directory's word: of an alternative without entry tests, of one that is searched for, or of none.
+fn predict_token(
+    registers: &[i64],
+    places: &mut [u32],
+    program: &[u32],
+    run: Run,
+    look: usize,
+) -> Step
+    requires { ⌜ ReadyForMove (now program) (now registers) (now places) run predictOperation × (look < 64) ⌝ }
+    ensures { λ r. ⌜ Predicts (now (program .entry)) (now (registers .entry)) (now (places .entry)) run look (now (places .exit)) r ⌝ }
+{
+    let entry = run_predict::entry_at(program, run, look);
+    if program_parts::DIRECTORY_SCHEME <= entry {
+        return run_entering::enter_and_read(places, program, run, look, entry);
+    }
+    if entry == 0 {
+        return Step::Blocked(run_moves::unexpected(look));
+    }
+    search_and_read(registers, places, program, run, look, entry)
+}
+
 // The predict for the token at hand, whose return address is kept, and its read where that comes next.
 fn predict_next(
     registers: &[i64],
@@ -95,10 +136,7 @@ fn predict_next(
     let look = kinds[i] as usize;
     let waiting = run_moves::word_at(places, run.places - 1);
     run_remove::keep_return(returns, run.places, waiting, run.at);
-    match run_predict::predict(registers, places, program, run, look) {
-        Step::Blocked(n) => Step::Blocked(n),
-        Step::Moved(next) => Step::Moved(run_next_token::read_on(places, program, next, look)),
-    }
+    predict_token(registers, places, program, run, look)
 }
 
 // The move at hand; 0 where it stops for want of what comes next. An add or an evaluate is left for the next turn.
