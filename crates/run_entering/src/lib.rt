@@ -22,7 +22,7 @@ fn push(places: &mut [u32], height: usize, production: usize)
     places[height] = program_parts::place(production, 0);
 }
 
-// The same after the read of its first symbol: the symbol is passed now, unless a test follows at `at`.
+// Pushes the place of a production whose first symbol is read: it is passed now, unless a test follows at `at`.
 fn push_read(places: &mut [u32], height: usize, production: usize, program: &[u32], at: usize)
     requires { ⌜ (height < length (now places)) × (production < productionsLimit) × (at < length (now program)) ⌝ }
     ensures { λ r. ⌜ now (places .exit) ≡ passed (now (program .entry)) at (height + 1) (set (now (places .entry)) height (placeAt production 0)) ⌝ }

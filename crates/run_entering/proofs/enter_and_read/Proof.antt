@@ -5,12 +5,14 @@ use mathlib.Core.Bool.{true}
 use lib.ListN.{length}
 use denote.Ref.{now}
 use borrow.Author.Needs.{needs}
+use Rattle.meaning.specs.Limits.{productionsLimit}
+use Rattle.meaning.specs.Machine.{movesLimit}
 use Rattle.theory_program.specs.Parts.{directoryNumber, directoryScheme}
 use Rattle.theory_program.specs.Addresses.{segment-at}
 use Rattle.theory_program.specs.WordsStand.{stands-within}
 use Rattle.run_moves.specs.Held.{bounds}
 use Rattle.run_next_token.specs.Reading.{canReadPlain}
-use Rattle.run_entering.specs.Predicting.{entered, entering-number, entering-full, entering-pushes, entering-holds, entering-inside, entering-reads}
+use Rattle.run_entering.specs.Predicting.{afterPredict, entering-number, entering-full, entering-pushes, entering-holds, entering-inside, entering-reads}
 use Rattle.run_entering.proofs.enter_and_read.Statement.{statement}
 use Rattle.run_entering.proofs.enter_and_read.Tie as tie
 
@@ -21,7 +23,7 @@ start c = c .before .before .before
 room : (c : tie.Else1) → (let a = start c .args in a .run .places < length (now (a .places)))
 room c = omega (arith, c .if1 .left, bounds (start c .pre .0 .1 .held) .places)
 
-small : (s : tie.Start) → (1 ≤ directoryNumber (s .args .entry)) × (directoryNumber (s .args .entry) ≤ 128)
+small : (s : tie.Start) → (1 ≤ directoryNumber (s .args .entry)) × (directoryNumber (s .args .entry) ≤ productionsLimit)
 small s = let p = s .pre in entering-number (now (s .args .program)) (now (s .args .places)) (s .args .run) (s .args .look) (s .args .entry) (p .1) (p .2) (p .3) (p .0 .1)
 
 -- where the run after the predict is made
@@ -29,14 +31,14 @@ abbrev else-of : tie.After-counted → tie.Else1
 else-of c = c .before .before .before
 
 -- the read comes next
-plain : (c : tie.Then2) → (let a = start (else-of (c .before .before)) .args in canReadPlain (now (a .program)) (entered (a .run) (directoryScheme (a .entry))) (a .look) ≡ true)
+plain : (c : tie.Then2) → (let a = start (else-of (c .before .before)) .args in canReadPlain (now (a .program)) (afterPredict (a .run) (directoryScheme (a .entry))) (a .look) ≡ true)
 plain c =
     let k = c .before in
     let n = k .before in
     let a = start (else-of n) .args in
     rw (n .counted .ensures, n .before .before .directory-scheme .ensures) at (sym (k .can-read-plain .ensures) ∙ c .if2 .taken)
 
-inside : (c : tie.Then2) → (let a = start (else-of (c .before .before)) .args in (directoryScheme (a .entry) + 1 < length (now (a .program))) × (a .run .moves + 1 < 4294967295))
+inside : (c : tie.Then2) → (let a = start (else-of (c .before .before)) .args in (directoryScheme (a .entry) + 1 < length (now (a .program))) × (a .run .moves + 1 < movesLimit))
 inside c =
     let e = else-of (c .before .before) in
     let s = start e in
