@@ -1,9 +1,9 @@
 // Refusals 11 and 12, and FIRST-then-FOLLOW of each production, on the image of a table's productions (outline `ImageOf`).
+use crate::first::fronts;
+use crate::recursion::left_recursive;
+use crate::then_follow::starting;
 use analysis::closing::nullable;
-use analysis_first::fronts;
-use analysis_follow::starting;
 use analysis_reachable::useless;
-use analysis_recursion::left_recursive;
 use limits::NONTERMINALS;
 use limits::PRODUCTIONS;
 use limits::ROWS;
@@ -15,6 +15,13 @@ ghost use Rattle.outline.specs.Images.{Image, ImageOf};
 ghost use Rattle.set_words.specs.Views.{rightBy};
 ghost use Rattle.set_words.specs.Growth.{SetsTo};
 ghost use Rattle.analysis.specs.Finding.{Analysed};
+
+pub mod first;
+pub mod follow;
+pub mod recursion;
+pub mod spreading;
+pub mod starts;
+pub mod then_follow;
 
 // The number of the refusal, or 0; its nonterminal.
 pub struct Analysis {

@@ -14,10 +14,10 @@ use Rattle.outline.specs.Outline.{stateIn, Outline}
 use Rattle.table.specs.Answer.{Answers, Worded}
 use Rattle.set_words.specs.Views.{rightBy}
 use Rattle.set_words.specs.Growth.{SetsTo}
-use Rattle.checker_grammar.specs.Concludes.{Concludes}
+use Rattle.checker.specs.grammar.Concludes.{Concludes}
 use Rattle.checker.specs.Judging.{Judges}
-use Rattle.checker_grammar.specs.declared.Judged.{Judged}
-use Rattle.checker_grammar.specs.declared.Judged.the-variants.{Unusable}
+use Rattle.checker.specs.declared.grammar.Judged.{Judged}
+use Rattle.checker.specs.declared.grammar.Judged.the-variants.{Unusable}
 
 checked-not : (t : List ℕ) (n o : ℕ) → readTable t ≡ malformed n o → check t ≡ unusable n o
 checked-not t n o e = go (readTable t) e

@@ -23,9 +23,9 @@ use Rattle.checker.specs.Judging.{Accepts, Judges}
 use Rattle.checker_span.specs.Spans.{stretchBy, stretchIs, Inside, spanIn}
 use Rattle.checker_span.proofs.Cases.{span-missing, span-found}
 use Rattle.checker.specs.Verdicts.{spanWhere, spanAs, spanOf}
-use Rattle.checker_grammar.specs.Concludes.{Concludes}
-use Rattle.checker_grammar.specs.declared.Judged.{Judged}
-use Rattle.checker_grammar.specs.declared.Judged.the-variants.{Usable, Unusable}
+use Rattle.checker.specs.grammar.Concludes.{Concludes}
+use Rattle.checker.specs.declared.grammar.Judged.{Judged}
+use Rattle.checker.specs.declared.grammar.Judged.the-variants.{Usable, Unusable}
 use Rattle.checker_span.specs.declared.Span.{Span}
 use Rattle.checker_span.specs.declared.Span.the-variants.{Within, Nowhere}
 

@@ -5,8 +5,8 @@ use mathlib.Core.List.{List}
 use Rattle.meaning.specs.PublicCalls.{usable, unusable, check}
 use Rattle.outline.specs.declared.Sizes.{Sizes}
 use Rattle.outline.specs.Outline.{stateIn, Outlined}
-use Rattle.checker_grammar.specs.declared.Judged.{Judged}
-use Rattle.checker_grammar.specs.declared.Judged.the-variants.{Usable, Unusable}
+use Rattle.checker.specs.declared.grammar.Judged.{Judged}
+use Rattle.checker.specs.declared.grammar.Judged.the-variants.{Usable, Unusable}
 
 pub record Accepts (t : List ℕ) (sizes : Sizes) (inherited synthesized rows offsets sets : List ℕ) : Type 0 where
   pub isUsable : check t ≡ usable (stateIn t)

@@ -4,7 +4,7 @@ ghost use lib.ListN.{length};
 ghost use mathlib.Core.Path.{_≡_};
 ghost use Rattle.outline.specs.Images.{rowsLength};
 ghost use Rattle.checker.specs.Judging.{Judges};
-use checker_grammar::Judged;
+use crate::grammar::Judged;
 use limits::NONTERMINALS;
 use limits::PRODUCTIONS;
 use limits::ROWS;
@@ -28,7 +28,7 @@ pub fn judge_table(
             number: number as u32,
             offset,
         },
-        Reading::WellFormed(sizes) => checker_grammar::judge_grammar(
+        Reading::WellFormed(sizes) => crate::grammar::judge_grammar(
             table,
             sizes,
             rows,

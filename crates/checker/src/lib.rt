@@ -4,15 +4,16 @@ ghost use Rattle.meaning.specs.Decide.{verdictOf};
 ghost use Rattle.meaning.specs.PublicCalls.{stretchOf};
 ghost use Rattle.checker_span.specs.Spans.{stretchIs};
 ghost use Rattle.checker.specs.Verdicts.{verdictIs};
+use crate::grammar::Judged;
+use crate::grammar::judge_grammar;
 use crate::spans::span_of;
-use checker_grammar::Judged;
-use checker_grammar::judge_grammar;
 use limits::NONTERMINALS;
 use limits::PRODUCTIONS;
 use limits::ROWS;
 use table::Reading;
 use table_read::read_table;
 
+pub mod grammar;
 pub mod judging;
 pub mod spans;
 

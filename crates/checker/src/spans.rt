@@ -2,8 +2,8 @@
 ghost use mathlib.Core.Path.{_≡_};
 ghost use Rattle.checker_span.specs.Spans.{Inside};
 ghost use Rattle.checker.specs.Verdicts.{spanOf};
+use crate::grammar::Judged;
 use crate::judging::judge_table;
-use checker_grammar::Judged;
 use checker_span::Span;
 use limits::NONTERMINALS;
 use limits::PRODUCTIONS;

@@ -22,12 +22,12 @@ use Rattle.outline.specs.Images.{leftAt}
 use Rattle.set_words.specs.Views.{members}
 use Rattle.set_words.specs.Growth.{none-in}
 use Rattle.analysis.specs.Numbers.{Clear, clear-none}
-use Rattle.clash_conditions.specs.EntryConditions.{atEntry, rankBy, raised, lowered, Stretch}
-use Rattle.clash_intervals.specs.Intervals.{leaveValues}
+use Rattle.clash_entries.specs.conditions.EntryConditions.{atEntry, rankBy, raised, lowered, Stretch}
+use Rattle.clash_rivals.specs.intervals.Intervals.{leaveValues}
 use Rattle.clash_rivals.specs.Rivals.{startTogether, rival, NextRival, rival-starts, rival-values, no-rival}
 use Rattle.outline.specs.Outline.{grammarIn}
 use Rattle.clash.specs.Together.{enterTogether, later-free, earlier-free, rank-most, matrix-solvable, ranges-together, compared-together}
-use Rattle.clash_conditions.specs.Walk.{afterAll}
+use Rattle.clash_entries.specs.conditions.Walk.{afterAll}
 use Rattle.theory_base.specs.Members.{from-on}
 use Rattle.clash.specs.Placing.{Placed}
 use Rattle.clash.specs.Clashing.{Kept, KeptTo, Given, given-place, Meeting, Seen, FirstRival, clashIn, enterIn, clash-apart, clash-met, both-kept, unmet-clear}

@@ -5,9 +5,9 @@ use mathlib.Core.Bool.{Bool, true, false}
 use mathlib.Core.List.{[], _∷_, _++_}
 use lib.IntN.{pos, negsuc}
 use Rattle.meaning.specs.Grammar.{Condition, range}
-use Rattle.clash_conditions.specs.BoundWords.{biased}
-use Rattle.clash_conditions.specs.EntryConditions.{raised, lowered, lowest, highest}
-use Rattle.clash_intervals.specs.Intervals.{leaveValues}
+use Rattle.clash_entries.specs.conditions.BoundWords.{biased}
+use Rattle.clash_entries.specs.conditions.EntryConditions.{raised, lowered, lowest, highest}
+use Rattle.clash_rivals.specs.intervals.Intervals.{leaveValues}
 
 -- 01: "Ranges 0 to 4 and 5 to 9 don't clash ★; 0 to 5 and 5 to 9 do ★"
 abbrev meets : Condition ℕ → Condition ℕ → Bool

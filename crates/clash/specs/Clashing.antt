@@ -27,8 +27,8 @@ use Rattle.set_words.specs.Views.{members, sees}
 use Rattle.set_words.specs.Growth.{or-left, or-right, or-members}
 use Rattle.analysis.specs.Tables.{zeros-none}
 use Rattle.analysis.specs.Numbers.{Clear, clear-any, any-count, count-any}
-use Rattle.clash_conditions.specs.EntryConditions.{rankBy, raiseBy, lowerBy, lowest, highest}
-use Rattle.clash_conditions.specs.Walk.{afterAll}
+use Rattle.clash_entries.specs.conditions.EntryConditions.{rankBy, raiseBy, lowerBy, lowest, highest}
+use Rattle.clash_entries.specs.conditions.Walk.{afterAll}
 use Rattle.clash_rivals.specs.Rivals.{startTogether, NextRival, start-same, start-tells}
 use Rattle.clash.specs.Kept.{Own, Stored, stored-own, stored-other, boundsLength}
 use Rattle.clash.specs.Together.{enterTogether, later-free}

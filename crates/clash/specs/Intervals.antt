@@ -18,7 +18,7 @@ use Rattle.theory_base.specs.Members.{and, both, or-cases, or-left, or-right, s
 use Rattle.theory_sets.specs.Tests.{decide, all-at, all-map, all-map₂}
 use Rattle.theory_sets.specs.Intervals.{onRange, entry, entered}
 use Rattle.meaning.specs.Rules.{lowestConstant, highestConstant, fourBytes}
-use Rattle.clash_conditions.specs.BoundWords.{biased}
+use Rattle.clash_entries.specs.conditions.BoundWords.{biased}
 use Rattle.analysis.specs.Numbers.{all-count, count-all}
 
 -- a test that passes at each place passes of all

@@ -21,7 +21,7 @@ use Rattle.theory_sets.specs.Intervals.{entry, entry-wider}
 use Rattle.theory_sets.specs.Tests.{all-map}
 use Rattle.theory_table.specs.Places.{Places, read-places}
 use Rattle.theory_table.specs.ReadLaidOut.{read-stretch}
-use Rattle.clash_conditions.specs.EntryConditions.{atEntry, entry-is, Stretch}
+use Rattle.clash_entries.specs.conditions.EntryConditions.{atEntry, entry-is, Stretch}
 use Rattle.outline.specs.Outline.{stateIn, grammarIn, Productions, entries-are}
 
 -- a slice of bytes

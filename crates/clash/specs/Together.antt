@@ -20,11 +20,11 @@ use Rattle.theory_differences.specs.Graph.{AllKnown}
 use Rattle.theory_differences.specs.Building.{solvable-same}
 use Rattle.theory_sets.specs.Intervals.{entry, entered, entry-known}
 use Rattle.analysis.specs.Numbers.{all-count-same}
-use Rattle.clash_conditions.specs.BoundWords.{biased}
-use Rattle.clash_intervals.specs.Intervals.{leaveValues}
+use Rattle.clash_entries.specs.conditions.BoundWords.{biased}
+use Rattle.clash_rivals.specs.intervals.Intervals.{leaveValues}
 use Rattle.clash.specs.Kept.{Own}
 use Rattle.clash.specs.Intervals.{lowEnd, highEnd, low-append, high-append, high-word, pairwise-is}
-use Rattle.clash_conditions.specs.EntryConditions.{atEntry, entry-is, after, rankBy, raised, lowered, lowest, highest}
+use Rattle.clash_entries.specs.conditions.EntryConditions.{atEntry, entry-is, after, rankBy, raised, lowered, lowest, highest}
 
 -- 01: "unless both have entry conditions and no values of the inherited attributes satisfy both". (Attributes that no condition reads play no part, so they are taken as 8)
 unfoldable pub enterTogether : Production → Production → Bool

@@ -8,8 +8,8 @@ ghost use lib.Dec.{eqb};
 ghost use Rattle.meaning.specs.Limits.{attributesLimit, productionsLimit};
 ghost use Rattle.meaning.specs.Grammar.{productionAt};
 ghost use Rattle.outline.specs.Outline.{grammarIn};
-ghost use Rattle.clash_conditions.specs.EntryConditions.{rankBy};
-ghost use Rattle.clash_conditions.specs.Walk.{afterAll};
+ghost use Rattle.clash_entries.specs.conditions.EntryConditions.{rankBy};
+ghost use Rattle.clash_entries.specs.conditions.Walk.{afterAll};
 ghost use Rattle.clash.specs.Kept.{Stored, boundsLength};
 ghost use Rattle.clash.specs.Placing.{Placed};
 ghost use Rattle.clash.specs.Clashing.{KeepsIf};
@@ -37,7 +37,7 @@ pub fn has_entry(table: &[u8], offsets: &[u32; PRODUCTIONS], p: usize) -> bool
     let mut low = [0u32; ATTRIBUTES];
     let mut high = [4294967295u32; ATTRIBUTES];
     let from = offsets[p] as usize;
-    let rank = clash_conditions::entry::narrow_by(&table[from..], &mut low, &mut high);
+    let rank = clash_entries::conditions::entry::narrow_by(&table[from..], &mut low, &mut high);
     rank != 0
 }
 
@@ -60,7 +60,7 @@ pub fn keep(
     let mut low = [0u32; ATTRIBUTES];
     let mut high = [4294967295u32; ATTRIBUTES];
     let from = offsets[p] as usize;
-    ranks[p] = clash_conditions::entry::narrow_by(&table[from..], &mut low, &mut high);
+    ranks[p] = clash_entries::conditions::entry::narrow_by(&table[from..], &mut low, &mut high);
     store(lows, p, &low);
     store(highs, p, &high);
 }

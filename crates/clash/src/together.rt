@@ -11,7 +11,7 @@ ghost use lib.ListN.{getD};
 ghost use Rattle.meaning.specs.Limits.{attributesLimit, productionsLimit};
 ghost use Rattle.meaning.specs.Grammar.{productionAt};
 ghost use Rattle.meaning.specs.Differences.{solvable};
-ghost use Rattle.clash_conditions.specs.EntryConditions.{atEntry};
+ghost use Rattle.clash_entries.specs.conditions.EntryConditions.{atEntry};
 ghost use Rattle.outline.specs.Outline.{grammarIn};
 ghost use Rattle.clash.specs.Placing.{Placed};
 ghost use Rattle.clash.specs.Clashing.{Ranked, enterIn};
@@ -26,7 +26,7 @@ fn leaves_differences(
     requires { ⌜ (later < productionsLimit) × (earlier < productionsLimit) × Placed (now table) (now offsets) later × Placed (now table) (now offsets) earlier ⌝ }
     ensures { λ r. ⌜ r ≡ solvable attributesLimit (atEntry (productionAt (grammarIn (now (table .entry))) later .conditions) ++ atEntry (productionAt (grammarIn (now (table .entry))) earlier .conditions)) ⌝ }
 {
-    let mut m = clash_differences::start(ATTRIBUTES);
+    let mut m = clash_cycles::differences::start(ATTRIBUTES);
     let from = offsets[later] as usize;
     constrain_by(&table[from..], &mut m);
     let from = offsets[earlier] as usize;

@@ -16,7 +16,7 @@ use Rattle.meaning.specs.Grammar.{Condition}
 use Rattle.theory_differences.specs.Solving.{NoneNegative, least, least-same, least-keeps, changed, at-changed, off-changed, solution}
 use Rattle.theory_differences.specs.Closing.{Small}
 use Rattle.theory_differences.specs.Decided.{EntriesAreWalks, listed, found, cycle}
-use Rattle.clash_differences.specs.Tested.{Negative}
+use Rattle.clash_cycles.specs.differences.Tested.{Negative}
 use Rattle.clash_cycles.specs.Values.{nodeValue, Near, Placed, Solves}
 
 pub least-turn : (f : ℕ → ℤ) (j : ℕ) (x y : ℤ) → 1 ≤ j → x ≡ least f (j - 1) → y ≡ f j → lesser x y ≡ least f (j + 1 - 1)

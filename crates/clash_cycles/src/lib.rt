@@ -13,6 +13,8 @@ ghost use Rattle.theory_differences.specs.Decided.{EntriesAreWalks, limit};
 ghost use Rattle.clash_cycles.specs.Values.{nodeValue, Near, Placed, Solves};
 use limits::ATTRIBUTES;
 
+pub mod differences;
+
 // ---- its elimination
 
 // The entry from i to j, by way of k where that is shorter.
@@ -22,7 +24,7 @@ fn relax(m: &mut [i64], k: usize, i: usize, j: usize)
 {
     let x = m[i * 9 + k];
     let y = m[k * 9 + j];
-    clash_differences::tighten(m, i, j, x + y);
+    crate::differences::tighten(m, i, j, x + y);
 }
 
 // The first k entries of the row i.
@@ -70,7 +72,7 @@ pub fn satisfiable(m: [i64; 81]) -> bool
 {
     let mut closed = m;
     close(&mut closed);
-    clash_differences::none_negative(&closed)
+    crate::differences::none_negative(&closed)
 }
 
 // ---- values
@@ -94,7 +96,7 @@ fn placed(m: &[i64], v: &[i64], k: usize) -> i64
     let mut j = 1;
     while j < k {
         let y = allowed(m, v, k, j);
-        x = clash_differences::lesser(x, y);
+        x = crate::differences::lesser(x, y);
         j += 1;
     }
     x
@@ -127,7 +129,7 @@ pub fn solve(m: [i64; 81]) -> Solved
     let mut closed = m;
     close(&mut closed);
     let mut v = [0i64; 9];
-    if clash_differences::none_negative(&closed) {
+    if crate::differences::none_negative(&closed) {
         place(&closed, &mut v);
         return Solved {
             met: true,

@@ -1,6 +1,6 @@
 // The matrix of differences with the entry conditions of a production: one pass over its fields.
-use clash_conditions::entry::field_size;
-use clash_conditions::entry::is_entry;
+use crate::conditions::entry::field_size;
+use crate::conditions::entry::is_entry;
 ghost use mathlib.Core.Path.{_≡_};
 ghost use mathlib.Core.Bool.{true};
 ghost use Prim.Native.Nat.{_<_, _≤_};
@@ -15,8 +15,10 @@ ghost use Rattle.meaning.specs.Differences.{constrained};
 ghost use Rattle.theory_differences.specs.Closing.{Small};
 ghost use Rattle.theory_differences.specs.Decided.{limit};
 ghost use Rattle.theory_sets.specs.Intervals.{entry};
-ghost use Rattle.clash_conditions.specs.EntryConditions.{entryHere, conditionHere, offsetHere, afterField, Stretch};
-ghost use Rattle.clash_conditions.specs.Walk.{afterAll};
+ghost use Rattle.clash_entries.specs.conditions.EntryConditions.{entryHere, conditionHere, offsetHere, afterField, Stretch};
+ghost use Rattle.clash_entries.specs.conditions.Walk.{afterAll};
+
+pub mod conditions;
 
 // A bound or constant in a field.
 fn bound_at(field: &[u8], at: usize) -> i64
@@ -46,11 +48,11 @@ fn constrain(field: &[u8], m: &mut [i64])
     }
     let a = value::byte_at(field, 5) as usize;
     if value::byte_at(field, 3) == 0 {
-        clash_differences::between(m, a, bound_at(field, 6), bound_at(field, 10));
+        clash_cycles::differences::between(m, a, bound_at(field, 6), bound_at(field, 10));
         return;
     }
     let b = value::byte_at(field, 7) as usize;
-    clash_differences::at_most(m, a, b, offset(field));
+    clash_cycles::differences::at_most(m, a, b, offset(field));
 }
 
 // The matrix with all entry conditions of the production whose stretch is at the front.

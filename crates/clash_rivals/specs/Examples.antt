@@ -6,7 +6,7 @@ use Prim.Native.Nat.{ℕ}
 use lib.ListN.{replicate}
 use Rattle.token_set.specs.SetBits.{setOf, bit}
 use Rattle.clash_rivals.specs.Rivals.{startTogether, rival}
-use Rattle.clash_intervals.specs.Intervals.{leaveValues}
+use Rattle.clash_rivals.specs.intervals.Intervals.{leaveValues}
 
 -- productions 0 and 1 of one left side with one set; their ranges are 0 to 4 and 5 to 9, or 0 to 5 and 5 to 9
 abbrev rivals : ℕ → List ℕ → Bool

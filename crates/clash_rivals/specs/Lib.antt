@@ -2,3 +2,5 @@
 pub mod Rivals
 -- The test of two productions, by computation
 pub mod Examples
+-- Whether the intervals that are kept of two productions leave some value to each attribute
+pub mod intervals

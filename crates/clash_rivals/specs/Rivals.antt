@@ -13,7 +13,7 @@ use Rattle.meaning.specs.Decide.{meet}
 use Rattle.theory_base.specs.Members.{both, true→T}
 use Rattle.token_set.specs.SetBits.{setOf}
 use Rattle.outline.specs.Images.{leftAt}
-use Rattle.clash_intervals.specs.Intervals.{leaveValues}
+use Rattle.clash_rivals.specs.intervals.Intervals.{leaveValues}
 
 -- one left side and sets that meet
 unfoldable pub startTogether : List ℕ → List ℕ → ℕ → ℕ → Bool

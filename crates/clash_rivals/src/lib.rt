@@ -10,6 +10,8 @@ ghost use Prim.Native.Nat.{_<_, _≤_};
 ghost use Rattle.meaning.specs.Limits.{productionsLimit};
 ghost use Rattle.clash_rivals.specs.Rivals.{startTogether, rival, NextRival};
 
+pub mod intervals;
+
 // Whether productions p and q have one left side and sets that meet.
 fn starts_together(rows: &[u8; ROWS], sets: &[u64; PRODUCTIONS], p: usize, q: usize) -> bool
     requires { ⌜ (p < productionsLimit) × (q < productionsLimit) ⌝ }
@@ -45,7 +47,7 @@ fn is_rival(
     if ranks[q] != 1 {
         return true;
     }
-    clash_intervals::leaves_values(lows, highs, p, q)
+    crate::intervals::leaves_values(lows, highs, p, q)
 }
 
 // The first rival of `later` from `from` on; `later` where there is none.

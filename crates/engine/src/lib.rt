@@ -11,6 +11,8 @@ use records::Handed;
 use records::State;
 use run_lent::Call;
 
+pub mod in_place;
+
 // The run record: a state, with the calls as its methods.
 pub struct Record {
     pub state: State,

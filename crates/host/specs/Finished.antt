@@ -9,7 +9,7 @@ use lib.IntN.{ℤ, pos}
 use Rattle.meaning.specs.Calls.{value, refused, tableRefused}
 use Rattle.meaning_window.specs.Window.{bringsAnswer}
 use Rattle.host_numbers.specs.Lent.{answerNumber, answerCount, answerValue}
-use Rattle.host_window_numbers.specs.Windows.{finishedAs}
+use Rattle.host_answers.specs.windows.Windows.{finishedAs}
 
 pub brought-value : (v : ℤ) (k : ℕ) (b : List ℤ) → bringsAnswer (finishedAs (answerNumber (value v k)) (answerValue (value v k)) (answerCount (value v k))) b ≡ bringsAnswer (value v k) b
 brought-value v k b = refl

@@ -6,7 +6,7 @@ use Rattle.meaning_house.specs.House.{HouseCalled}
 use Rattle.house_write.specs.Answers.{houseIs}
 use Rattle.house_write.specs.declared.Written.{Written}
 use Rattle.house_write.specs.declared.Written.the-variants.{Done, Short, Unusable}
-use Rattle.host_house_numbers.specs.HouseNumbers.{answered, numbered}
+use Rattle.host_answers.specs.housed.HouseNumbers.{answered, numbered}
 
 -- the answer as three numbers, and the buffer
 abbrev pub housed : ℕ → ℕ → ℕ → List ℕ → HouseCalled → Type 0

@@ -8,3 +8,5 @@ pub mod Housed
 pub mod Both
 -- What a finish hands out as numbers is brought to a window as its answer
 pub mod Finished
+-- The set of the tokens that may come, or what turns the call back, as numbers
+pub mod may_numbers

@@ -3,7 +3,7 @@ ghost use Rattle.meaning.specs.Program.{programOf};
 ghost use Rattle.meaning.specs.PublicCalls.{stacksOf};
 ghost use Rattle.meaning_preview.specs.Preview.{previews, mays};
 ghost use Rattle.host_numbers.specs.Lent.{broughtIn, PassedOn};
-ghost use Rattle.host_preview_numbers.specs.Previewed.{MayPassedOn};
+ghost use Rattle.host.specs.may_numbers.Previewed.{MayPassedOn};
 
 // What feeding a token would answer, and in `after` the record that it would hand back. The run's own record and stacks are only
 // read; the scratch is as long as the part of each stack that a run may use, and that part of it ends cleared.
@@ -68,7 +68,7 @@ pub extern "C" fn segment_may(
         program,
         value,
     );
-    *tokens = host_preview_numbers::tokens_of(may);
-    *number = host_preview_numbers::may_number(may);
-    *count = host_preview_numbers::may_count(may);
+    *tokens = crate::may_numbers::tokens_of(may);
+    *number = crate::may_numbers::may_number(may);
+    *count = crate::may_numbers::may_count(may);
 }

@@ -2,7 +2,7 @@
 ghost use Rattle.meaning.specs.Program.{programOf};
 ghost use Rattle.meaning.specs.PublicCalls.{stacksOf};
 ghost use Rattle.meaning_ranking.specs.RankCall.{rankOf};
-ghost use Rattle.host_rank_numbers.specs.Suggested.{RankPassedOn};
+ghost use Rattle.host_answers.specs.ranked.Suggested.{RankPassedOn};
 
 // Candidate segments, as one list of kinds, one of values and their lengths, evaluated and listed, highest value first: three cells an
 // entry, its candidate's number, its value or 0, its refusal or 0. How many were valued, the exact total of their values and the number of
@@ -36,5 +36,5 @@ pub extern "C" fn segment_rank(
         values,
         lengths,
     );
-    host_rank_numbers::lend(answer, valued, total, entries, number, offset);
+    host_answers::ranked::lend(answer, valued, total, entries, number, offset);
 }

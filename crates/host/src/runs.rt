@@ -66,7 +66,7 @@ pub extern "C" fn segment_feed_in_place(
         (performs programOf (now (table .entry)) (now (program .entry)) (broughtIn (now («record» .entry))) (stacksOf (now (registers .entry)) (now (places .entry))) (feed (now (kinds .entry)) (now (values .entry)))) ⌝ }
 {
     let brought = host_numbers::brought(record);
-    let called = host_in_place::fed(brought, table, registers, places, program, kinds, values);
+    let called = crate::in_place::fed(brought, table, registers, places, program, kinds, values);
     host_numbers::pass_on(called, record, number, count);
 }
 

@@ -1,5 +1,5 @@
 // Sheets from other tools.
-ghost use Rattle.host_judge_numbers.specs.JudgeLent.{JudgedLent};
+ghost use Rattle.host_answers.specs.judged.JudgeLent.{JudgedLent};
 
 // The value of a sheet that describes the segment's tree; number and offset are then 0. On a refusal these are the refusal's (38 or 43
 // with 0, or the table's), and the value is 0.
@@ -16,5 +16,5 @@ pub extern "C" fn segment_judge(
     ensures { λ r. ⌜ JudgedLent (now (table .entry)) (now (kinds .entry)) (now (values .entry)) (now (sheet .entry)) (now (number .exit)) (now (value .exit)) (now (offset .exit)) ⌝ }
 {
     let judged = judge::judge(table, kinds, values, sheet);
-    host_judge_numbers::lend(judged, number, value, offset);
+    host_answers::judged::lend(judged, number, value, offset);
 }

@@ -101,5 +101,5 @@ pub extern "C" fn segment_house(
 )
     ensures { λ r. ⌜ housed (now (length .exit)) (now (number .exit)) (now (offset .exit)) (now (out .exit)) (houseOf (now (table .entry)) (now (out .entry))) ⌝ }
 {
-    host_house_numbers::tell(house::house(table, out), length, number, offset);
+    host_answers::housed::tell(house::house(table, out), length, number, offset);
 }

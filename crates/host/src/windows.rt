@@ -1,6 +1,6 @@
 // The window over the last values: a finish's answer comes as the three numbers that `segment_finish` hands out.
 ghost use Rattle.meaning_window.specs.Window.{opensWindow, bringsAnswer};
-ghost use Rattle.host_window_numbers.specs.Windows.{finishedAs, WindowPassedOn};
+ghost use Rattle.host_answers.specs.windows.Windows.{finishedAs, WindowPassedOn};
 use window::window_open;
 use window_answers::window_brings;
 
@@ -17,7 +17,7 @@ pub extern "C" fn segment_window_open(
     ensures { λ r. ⌜ WindowPassedOn (opensWindow size (now (buffer .entry))) (now (buffer .exit)) (now (number .exit)) (now (total .exit)) (now (largest .exit)) (now (known .exit)) ⌝ }
 {
     let answer = window_open(size, buffer);
-    host_window_numbers::hand_out(answer, number, total, largest, known);
+    host_answers::windows::hand_out(answer, number, total, largest, known);
 }
 
 // Brings a finish's answer: a value enters where the finish's number is 0; otherwise nothing changes.
@@ -34,7 +34,7 @@ pub extern "C" fn segment_window_value(
 )
     ensures { λ r. ⌜ WindowPassedOn (bringsAnswer (finishedAs finish value count) (now (buffer .entry))) (now (buffer .exit)) (now (number .exit)) (now (total .exit)) (now (largest .exit)) (now (known .exit)) ⌝ }
 {
-    let answer = host_window_numbers::finished(finish, value, count);
+    let answer = host_answers::windows::finished(finish, value, count);
     let answer = window_brings(answer, buffer);
-    host_window_numbers::hand_out(answer, number, total, largest, known);
+    host_answers::windows::hand_out(answer, number, total, largest, known);
 }

@@ -18,8 +18,8 @@ use Rattle.outline.specs.declared.Sizes.{Sizes}
 use Rattle.outline.specs.Outline.{stateIn, Outline, entries-are}
 use Rattle.checker.specs.Judging.{Judges}
 use Rattle.checker.proofs.Cases.{accepted-case, refused-case}
-use Rattle.checker_grammar.specs.declared.Judged.{Judged}
-use Rattle.checker_grammar.specs.declared.Judged.the-variants.{Usable, Unusable}
+use Rattle.checker.specs.declared.grammar.Judged.{Judged}
+use Rattle.checker.specs.declared.grammar.Judged.the-variants.{Usable, Unusable}
 use Rattle.house_write.specs.Answers.{houseIs}
 use Rattle.house.specs.Answers.{PlanReady, Writes}
 use Rattle.house_write.specs.declared.Written.{Written}

@@ -5,7 +5,7 @@ ghost use lib.ListN.{length};
 ghost use Rattle.meaning_house.specs.House.{houseOf};
 ghost use Rattle.house_write.specs.Answers.{houseIs};
 ghost use Rattle.house.specs.Answers.{PlanReady, Writes};
-use checker_grammar::Judged;
+use checker::grammar::Judged;
 use house_write::Written;
 use limits::NONTERMINALS;
 use limits::PRODUCTIONS;
@@ -23,7 +23,7 @@ fn write_house(
     ensures { λ r. ⌜ Writes (now (table .entry)) (now (offsets .entry)) count (length (now (plan .entry))) (now (out .entry)) (now (out .exit)) r ⌝ }
 {
     let n = house_plan::plan_table(table, offsets, count, plan);
-    let first = house_keys::offset_at(offsets, 0);
+    let first = house_sort::keys::offset_at(offsets, 0);
     house_write::write_planned(table, &plan[..n], first, out)
 }
 

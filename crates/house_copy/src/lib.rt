@@ -16,8 +16,8 @@ pub fn planned_length(table: &[u8], order: &[u32]) -> usize
     let mut sum: usize = 0;
     let mut i: usize = 0;
     while i < order.len() {
-        let at = house_keys::offset_at(order, i);
-        let field = house_keys::field_at(table, at);
+        let at = house_sort::keys::offset_at(order, i);
+        let field = house_sort::keys::field_at(table, at);
         sum += field.len();
         i += 1;
     }
@@ -44,8 +44,8 @@ pub fn write_fields(table: &[u8], order: &[u32], out: &mut [u8], to: usize)
     let mut at = to;
     let mut i: usize = 0;
     while i < order.len() {
-        let offset = house_keys::offset_at(order, i);
-        let field = house_keys::field_at(table, offset);
+        let offset = house_sort::keys::offset_at(order, i);
+        let field = house_sort::keys::field_at(table, offset);
         copy(field, out, at);
         at += field.len();
         i += 1;

@@ -9,7 +9,7 @@ use lib.Seq.{length-take-le, take-append-add, take-append-le, take-suc-set, drop
 use Rattle.theory_order.specs.Gathering.{gathered}
 use Rattle.theory_order.specs.FieldWalk.{sizeAt, keyAt, Fields, tagged}
 use Rattle.theory_order.specs.Planning.{planOf, uses, Planned, NextPlanned, planned-more, planned-none}
-use Rattle.house_arrange.specs.Promises.{Room, Gathers}
+use Rattle.house_sort.specs.arrange.Promises.{Room, Gathers}
 use Rattle.house_plan.specs.Plans.{GathersBehind, ProductionRoom, ProductionPlanned, TableRoom, TablePlanned}
 
 -- ---- behind the first n offsets

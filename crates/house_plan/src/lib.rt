@@ -1,7 +1,7 @@
 // The plan of a table: the offsets of its fields in house order, from the first production on.
 ghost use Prim.Native.Nat.{_+_, _-_, _<_, _≤_};
 ghost use lib.ListN.{length, take};
-ghost use Rattle.house_arrange.specs.Promises.{Room};
+ghost use Rattle.house_sort.specs.arrange.Promises.{Room};
 ghost use Rattle.house_plan.specs.Plans.{GathersBehind, ProductionRoom, ProductionPlanned, TableRoom, TablePlanned};
 
 // The fields with a tag, in the order of their keys, behind the first n offsets of the plan. Answers how many there are then.
@@ -16,7 +16,7 @@ fn gather_behind(
     requires { ⌜ (length (now table) < 4294967296) × (width ≤ 11) × (n ≤ length (now plan)) × Room (now table) body tag (length (now plan) - n) × (length (now plan) ≤ 1664) ⌝ }
     ensures { λ r. ⌜ GathersBehind (now (table .entry)) body tag width (now (plan .entry)) n (now (plan .exit)) r ⌝ }
 {
-    let found = house_arrange::gather(table, body, tag, width, &mut plan[n..]);
+    let found = house_sort::arrange::gather(table, body, tag, width, &mut plan[n..]);
     n + found
 }
 
@@ -25,7 +25,7 @@ fn plan_production(table: &[u8], from: usize, plan: &mut [u32], n: usize) -> usi
     requires { ⌜ (length (now table) < 4294967296) × (from < 4294967296) × ProductionRoom (now table) from n (length (now plan)) × (length (now plan) ≤ 1664) ⌝ }
     ensures { λ r. ⌜ ProductionPlanned (now (table .entry)) from (now (plan .entry)) n (now (plan .exit)) r ⌝ }
 {
-    let body = house_keys::end_of(table, from);
+    let body = house_sort::keys::end_of(table, from);
     plan[n] = from as u32;
     let rules = gather_behind(table, body, 4, 2, plan, n + 1);
     gather_behind(table, body, 5, 11, plan, rules)
@@ -39,7 +39,7 @@ pub fn plan_table(table: &[u8], offsets: &[u32], count: usize, plan: &mut [u32])
     let mut n: usize = 0;
     let mut p: usize = 0;
     while p < count {
-        let from = house_keys::offset_at(offsets, p);
+        let from = house_sort::keys::offset_at(offsets, p);
         n = plan_production(table, from, plan, n);
         p += 1;
     }

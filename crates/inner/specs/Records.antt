@@ -6,7 +6,7 @@ use Rattle.meaning.specs.PublicCalls.{stacksOf}
 use Rattle.meaning_inner.specs.Inner.{handedBack, InnerEffect, innerEffect}
 use Rattle.records.specs.Records.{answerIs}
 use Rattle.engine.specs.Records.{recordIs}
-use Rattle.inner_records.specs.declared.InnerHanded.{InnerHanded}
+use Rattle.inner.specs.declared.states.InnerHanded.{InnerHanded}
 use Rattle.inner.specs.declared.InnerCalled.{InnerCalled}
 
 -- what a call answers, and the stacks and the program area that it leaves

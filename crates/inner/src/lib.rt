@@ -6,14 +6,20 @@ ghost use Rattle.meaning_inner.specs.Inner as Inner;
 ghost use Rattle.meaning_inner.specs.Inner.{giveUp, innerOpens, innerPerforms};
 ghost use Rattle.records.specs.Records.{stateIs};
 ghost use Rattle.engine.specs.Records.{recordIs};
-ghost use Rattle.inner_records.specs.Records.{callIs, innerLeaves};
+ghost use Rattle.inner.specs.states.Records.{callIs, innerLeaves};
 ghost use Rattle.inner.specs.Records.{innerEffectIs, innerCalledFrom};
+use crate::states::Call;
+use crate::states::InnerHanded;
 use engine::Record;
-use inner_records::Call;
-use inner_records::InnerHanded;
 use prepare::Begun;
 use records::Answer;
 use records::State;
+
+pub mod begin;
+pub mod judge;
+pub mod opening;
+pub mod states;
+pub mod stretch;
 
 // What an inner call hands back: both records and the answer.
 pub struct InnerCalled {
@@ -49,7 +55,7 @@ pub fn open_inner(
     ensures { λ r. ⌜ innerEffectIs r (now (registers .exit)) (now (places .exit)) (now (program .exit)) ≡ innerOpens programOf (now («outer_table» .entry)) (now («inner_table» .entry)) (now (program .entry)) (recordIs outer) (stacksOf (now (registers .entry)) (now (places .entry))) ⌝ }
 {
     let state = outer.state;
-    hand_back(inner_opening::open_outside(
+    hand_back(crate::opening::open_outside(
         state,
         outer_table,
         inner_table,
@@ -81,7 +87,7 @@ fn perform(
             inner,
             answer,
         },
-        Begun::Ready => inner_stretch::call_above(
+        Begun::Ready => crate::stretch::call_above(
             call,
             outer,
             inner,

@@ -18,12 +18,12 @@ use Rattle.outline.specs.Images.{ImageOf, rowStart, sizeAt, right-is, size-is, 
 use Rattle.outline.specs.Outline.{grammarIn, Productions, Outline}
 use Rattle.checker.specs.Judging.{Accepts, Judges}
 use Rattle.checker.proofs.Cases.{accepted-case, refused-case}
-use Rattle.checker_grammar.specs.declared.Judged as Table
-use Rattle.checker_grammar.specs.declared.Judged.the-variants as Case
+use Rattle.checker.specs.declared.grammar.Judged as Table
+use Rattle.checker.specs.declared.grammar.Judged.the-variants as Case
 use Rattle.meaning_judge.specs.Judge.{JudgeAnswer, JudgedAs, SettlesIf, SettlesUnder, Settles, turnedBack}
 use Rattle.theory_judge.specs.Marks.{leaves-many}
 use Rattle.theory_judge.specs.Whole.{none-many, settles-none}
-use Rattle.judge_parts.specs.Checked.{leavesIn}
+use Rattle.judge_nodes.specs.parts.Checked.{leavesIn}
 use Rattle.judge_sheet.specs.declared.Judgement.{Judgement}
 use Rattle.judge_sheet.specs.Judged.{judgementIs, SheetReady, SheetSettled}
 

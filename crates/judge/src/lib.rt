@@ -1,7 +1,7 @@
 // 02 (m): sheets from other tools. A sheet is accepted exactly if it describes the segment's well evaluated tree.
 ghost use Rattle.meaning_judge.specs.Judge.{JudgedAs};
 ghost use Rattle.judge_sheet.specs.Judged.{judgementIs};
-use checker_grammar::Judged;
+use checker::grammar::Judged;
 use judge_sheet::Judgement;
 use limits::NONTERMINALS;
 use limits::PRODUCTIONS;

@@ -2,13 +2,19 @@
 ghost use mathlib.Core.Path.{_≡_};
 ghost use lib.ListN.{length};
 ghost use Rattle.meaning.specs.Limits.{positionsLimit};
-ghost use Rattle.judge_parts.specs.Checked.{NodeReady, NodeEnds, ChildrenReady, ChildrenEnds};
-use judge_parts::Answer;
-use judge_parts::Begun;
-use judge_parts::Node;
-use judge_parts::Subtree;
-use judge_parts::closed;
+ghost use Rattle.judge_nodes.specs.parts.Checked.{NodeReady, NodeEnds, ChildrenReady, ChildrenEnds};
+use crate::parts::Answer;
+use crate::parts::Begun;
+use crate::parts::Node;
+use crate::parts::Subtree;
+use crate::parts::closed;
 use limits::POSITIONS;
+
+pub mod head;
+pub mod marks;
+pub mod numbers;
+pub mod parts;
+pub mod values;
 
 // Whether the sheet describes this tree; with where sheet and tokens go on after it.
 pub fn check_node(
@@ -25,7 +31,7 @@ pub fn check_node(
     requires { ⌜ NodeReady (now table) (now rows) (now inh) (now syn) (now offsets) (now kinds) (now values) (now sheet) (tree .from) (tree .symbol) ⌝ }
     ensures { λ r. ⌜ NodeEnds (now (table .entry)) (now (rows .entry)) (now (inh .entry)) (now (syn .entry)) (now (offsets .entry)) (now (kinds .entry)) (now (values .entry)) (now (sheet .entry)) (tree .at) (tree .from) (tree .symbol) (tree .depth) r ⌝ }
 {
-    match judge_parts::begin(rows, inh, syn, kinds, values, sheet, tree) {
+    match crate::parts::begin(rows, inh, syn, kinds, values, sheet, tree) {
         Begun::Over(answer) => answer,
         Begun::Inside(node) => {
             let mut marks = [tree.at; POSITIONS];
@@ -73,8 +79,8 @@ pub fn check_children(
     let mut k: usize = 0;
     while k < size {
         let symbol = outline::symbol_of(rows, node.production, k);
-        marks[k + 1] = judge_parts::mark_of(sheet.len(), symbol, next, end);
-        let tree = judge_parts::tree_at(next, end, symbol, node.depth);
+        marks[k + 1] = crate::parts::mark_of(sheet.len(), symbol, next, end);
+        let tree = crate::parts::tree_at(next, end, symbol, node.depth);
         match check_node(table, rows, inh, syn, offsets, kinds, values, sheet, tree) {
             Answer::Wrong => {
                 return Answer::Wrong;

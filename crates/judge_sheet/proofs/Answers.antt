@@ -17,10 +17,10 @@ use Rattle.theory_judge.specs.Described.{Described}
 use Rattle.theory_judge.specs.Whole.{none-wrong, none-longer, none-tokens, settles-worth, settles-none}
 use Rattle.outline.specs.Images.{symbol-nonterminal}
 use Rattle.outline.specs.Outline.{grammarIn}
-use Rattle.judge_parts.specs.Checked.{leavesIn, EndsOrNone, NodeReady, NodeEnds}
-use Rattle.judge_parts.specs.Laws.{ends-of-fits, none-of-wrong}
-use Rattle.judge_parts.specs.declared.Answer as Answer
-use Rattle.judge_parts.specs.declared.Answer.the-variants.{Fits, Wrong}
+use Rattle.judge_nodes.specs.parts.Checked.{leavesIn, EndsOrNone, NodeReady, NodeEnds}
+use Rattle.judge_nodes.specs.parts.Laws.{ends-of-fits, none-of-wrong}
+use Rattle.judge_nodes.specs.declared.parts.Answer as Answer
+use Rattle.judge_nodes.specs.declared.parts.Answer.the-variants.{Fits, Wrong}
 use Rattle.judge_sheet.specs.Judged.{SheetReady}
 
 module _ {table rows inherited synthesized offsets ks : List ℕ} {vs : List ℤ} {sheet : List ℕ} {start result : ℕ} (y : SheetReady table rows inherited synthesized offsets ks vs sheet start result) where

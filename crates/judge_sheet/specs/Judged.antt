@@ -7,8 +7,8 @@ use Rattle.meaning.specs.Limits.{depthLimit}
 use Rattle.meaning.specs.Grammar.{nonterminalBase}
 use Rattle.meaning_judge.specs.Judge.{JudgeAnswer, worth, turnedBack, Settles}
 use Rattle.outline.specs.Outline.{grammarIn}
-use Rattle.judge_parts.specs.Checked.{Book, leavesIn, NodeEnds}
-use Rattle.judge_parts.specs.declared.Answer as Answer
+use Rattle.judge_nodes.specs.parts.Checked.{Book, leavesIn, NodeEnds}
+use Rattle.judge_nodes.specs.declared.parts.Answer as Answer
 use Rattle.judge_sheet.specs.declared.Judgement.{Judgement}
 use Rattle.judge_sheet.specs.declared.Judgement.the-variants.{Value, Uneven, Wrong, Unusable}
 

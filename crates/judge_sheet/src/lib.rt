@@ -1,7 +1,7 @@
 // A sheet under an accepted table: it describes a tree of the start symbol over all tokens, and nothing is after it.
 ghost use Prim.Native.Nat.{_<_};
 ghost use Rattle.judge_sheet.specs.Judged.{RootSettled, SheetReady, SheetSettled};
-use judge_parts::Answer;
+use judge_nodes::parts::Answer;
 use limits::DEPTH;
 
 // The root's value; kinds and values are not equally many (38); the sheet is not accepted (43); or the table is refused.
@@ -32,7 +32,7 @@ fn judge_root(
             if end != kinds.len() {
                 return Judgement::Wrong;
             }
-            Judgement::Value(judge_marks::read_mark(sheet, values, 0, result))
+            Judgement::Value(judge_nodes::marks::read_mark(sheet, values, 0, result))
         }
     }
 }
@@ -54,7 +54,7 @@ pub fn judge_sheet(
     ensures { λ r. ⌜ SheetSettled (now (table .entry)) (now (rows .entry)) (now (inherited .entry)) (now (synthesized .entry)) (now (offsets .entry)) (now (kinds .entry)) (now (values .entry)) (now (sheet .entry)) start result r ⌝ }
 {
     let symbol = (128 + start) as u8;
-    let root = judge_parts::tree_at(0, 0, symbol, DEPTH);
+    let root = judge_nodes::parts::tree_at(0, 0, symbol, DEPTH);
     let answer = judge_nodes::check_node(
         table,
         rows,

@@ -16,8 +16,8 @@ use Rattle.outline.specs.Outline.{stateIn, grammarIn}
 use Rattle.checker.specs.Judging.{Judges}
 use Rattle.program.specs.Building.{ProgramWrote}
 use Rattle.checker.proofs.Cases.{accepted-case}
-use Rattle.checker_grammar.specs.declared.Judged.{Judged}
-use Rattle.checker_grammar.specs.declared.Judged.the-variants.{Usable}
+use Rattle.checker.specs.declared.grammar.Judged.{Judged}
+use Rattle.checker.specs.declared.grammar.Judged.the-variants.{Usable}
 use Rattle.prepare.specs.declared.Made.{Made}
 use Rattle.prepare.specs.declared.Made.the-variants.{Short, Refused, Written}
 use Rattle.prepare.specs.Making.{madeIs, ProgramStands, Case, MadeAs}

@@ -3,7 +3,7 @@ ghost use mathlib.Core.Path.{_≡_};
 ghost use Rattle.meaning.specs.PublicCalls.{made, madeOf};
 ghost use Rattle.prepare.specs.Making.{madeIs, MadeAs};
 ghost use Rattle.prepare.specs.Beginning.{BegunAs};
-use checker_grammar::Judged;
+use checker::grammar::Judged;
 use limits::AREA;
 use limits::NONTERMINALS;
 use limits::PRODUCTIONS;

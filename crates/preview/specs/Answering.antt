@@ -19,10 +19,10 @@ use Rattle.run_moves.specs.declared.Run.{Run}
 use Rattle.run_fit.specs.HasProgram.{HasProgram}
 use Rattle.run_lent.specs.Judging.{when-not, not-turned}
 use Rattle.run_lent.specs.Performing.{Starts, Judged}
-use Rattle.preview_token.specs.Passing.{isStopped, letsThrough}
-use Rattle.preview_collect.specs.Collecting.{Collected}
-use Rattle.preview_judge.specs.Judging.{copyNumber, copied-on}
-use Rattle.preview_cells.specs.Answering.{feed-answers, tidied-whole}
+use Rattle.preview.specs.token.Passing.{isStopped, letsThrough}
+use Rattle.preview.specs.collect.Collecting.{Collected}
+use Rattle.preview.specs.judge.Judging.{copyNumber, copied-on}
+use Rattle.preview.specs.cells.Answering.{feed-answers, tidied-whole}
 use Rattle.preview.specs.May.{mayEffectIs}
 use Rattle.preview.specs.declared.May.the-variants.{Tokens}
 

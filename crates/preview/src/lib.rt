@@ -8,7 +8,7 @@ ghost use Rattle.run_fit.specs.HasProgram.{HasProgram, Readable};
 ghost use Rattle.records.specs.Records.{stateIs};
 ghost use Rattle.run_lent.specs.Performing.{Judged};
 ghost use Rattle.engine.specs.Records.{recordIs, effectIs};
-ghost use Rattle.preview_lent.specs.Answering.{LentAlike};
+ghost use Rattle.preview.specs.lent.Answering.{LentAlike};
 ghost use Rattle.preview.specs.May.{mayEffectIs};
 ghost use Rattle.preview.specs.Answering.{SetAnswered};
 use engine::Called;
@@ -17,6 +17,14 @@ use prepare::Begun;
 use records::Answer;
 use records::State;
 use token_set::TokenSet;
+
+pub mod cells;
+pub mod collect;
+pub mod expected;
+pub mod judge;
+pub mod lent;
+pub mod scratch;
+pub mod token;
 
 // The set of tokens that may come next, or what turns the call back.
 pub enum May {
@@ -42,7 +50,7 @@ pub fn preview(
     let state = record.state;
     match prepare::begin(table, program) {
         Begun::Turned(answer) => Called { record, answer },
-        Begun::Ready => engine::hand_back(preview_cells::preview_cells(
+        Begun::Ready => engine::hand_back(crate::cells::preview_cells(
             registers,
             places,
             scratch_registers,
@@ -72,7 +80,7 @@ fn may_lent(
     run_cells::clear_registers(scratch_registers);
     run_cells::clear_places(scratch_places);
     let run = run_states::run_of(places, program, brought);
-    preview_collect::collect(
+    crate::collect::collect(
         registers,
         places,
         scratch_registers,
@@ -97,7 +105,7 @@ fn may_cells(
     ensures { λ r. ⌜ ((g : Grammar) → HasProgram g (now (program .entry)) → mayEffectIs r (now («scratch_registers» .exit)) (now («scratch_places» .exit)) (now (program .entry))
         ≡ mayOf g (stateIs brought) (stacksOf (now (registers .entry)) (now (places .entry))) (stacksOf (now («scratch_registers» .entry)) (now («scratch_places» .entry))) value (now (program .entry))) ⌝ }
 {
-    let number = preview_judge::judge(
+    let number = crate::judge::judge(
         registers,
         places,
         scratch_registers,

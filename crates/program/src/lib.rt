@@ -9,6 +9,11 @@ use limits::PRODUCTIONS;
 use limits::ROWS;
 use outline::Sizes;
 
+pub mod directory;
+pub mod productions;
+pub mod record;
+pub mod segment;
+
 // Writes the program; answers its length. Words beyond it stay as they are.
 pub fn build(
     table: &[u8],
@@ -23,8 +28,8 @@ pub fn build(
     requires { ⌜ Outlined (now table) sizes (now inherited) (now synthesized) (now rows) (now offsets) (now sets) × (areaLength ≤ length (now area)) ⌝ }
     ensures { λ r. ⌜ ProgramWrote (grammarIn (now (table .entry))) (now (area .entry)) (now (area .exit)) r ⌝ }
 {
-    program_segment::write_segment(synthesized, sizes, area);
-    let end = program_productions::write_productions(
+    crate::segment::write_segment(synthesized, sizes, area);
+    let end = crate::productions::write_productions(
         table,
         rows,
         inherited,
@@ -34,6 +39,6 @@ pub fn build(
         sizes,
         area,
     );
-    program_directory::write_directory(rows, sets, sizes.nonterminals, sizes.productions, area);
+    crate::directory::write_directory(rows, sets, sizes.nonterminals, sizes.productions, area);
     end
 }

@@ -7,14 +7,16 @@ ghost use Rattle.meaning.specs.Scheme.{synBetween};
 ghost use Rattle.program_block_words.specs.Patch.{Wrote};
 ghost use Rattle.program_body_words.specs.SchemeWords.{endWords};
 ghost use Rattle.program_body_words.specs.OfProduction.{rightOf, Prepared, EndFits, BodyFits, BodyWrote};
+use crate::symbols::write_symbols;
 use outline::count_of;
 use program_blocks::RULES;
 use program_blocks::write_block;
 use program_blocks::write_entry_tests;
 use program_body_levels::find_levels;
-use program_body_symbols::write_symbols;
 use token_set::TokenSet;
 use value::word_or_zero;
+
+pub mod symbols;
 
 // The synthesized attributes of all symbols.
 fn whole_sum(row: &[u8], inherited: &[u8], levels: &[u32]) -> u32

@@ -19,7 +19,7 @@ use Rattle.theory_ranking.specs.Cells.{length-cells, length-entries}
 use Rattle.prepare.specs.Making.{ProgramStands}
 use Rattle.prepare.specs.Beginning.{standing-shown}
 use Rattle.run_fit.specs.HasProgram.{HasProgram}
-use Rattle.rank_candidates.specs.Each.{AllDone}
+use Rattle.rank.specs.candidates.Each.{AllDone}
 use Rattle.rank_report.specs.declared.Ranked.{Ranked}
 use Rattle.rank_report.specs.declared.Ranked.the-variants.{Done, Refused}
 use Rattle.rank_report.specs.Report.{Reported}

@@ -11,6 +11,10 @@ ghost use Rattle.rank.specs.Listing.{ListedAs};
 use prepare::Made;
 use rank_report::Ranked;
 
+pub mod afresh;
+pub mod candidates;
+pub mod evaluate;
+
 // 38, and the candidates, under a program that is at hand.
 fn rank_under(
     registers: &mut [i64],
@@ -30,7 +34,7 @@ fn rank_under(
             offset: 0,
         };
     }
-    rank_candidates::evaluate_all(registers, places, program, list, kinds, values, lengths);
+    crate::candidates::evaluate_all(registers, places, program, list, kinds, values, lengths);
     rank_report::report(list, lengths.len())
 }
 

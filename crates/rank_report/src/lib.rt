@@ -5,6 +5,11 @@ ghost use Rattle.meaning.specs.Limits.{candidatesLimit};
 ghost use Rattle.theory_ranking.specs.Entries.{Distinct, Ranged, entriesOf};
 ghost use Rattle.rank_report.specs.Report.{Reported};
 
+pub mod copy;
+pub mod entries;
+pub mod sort;
+pub mod totals;
+
 pub enum Ranked {
     // How many were valued, the total of their values, the number of entries written.
     Done {
@@ -24,9 +29,9 @@ pub fn report(list: &mut [i64], count: usize) -> Ranked
     requires { ⌜ (count ≤ candidatesLimit) × (3 * count ≤ length (now list)) × Ranged (entriesOf count (now list)) × Distinct (entriesOf count (now list)) ⌝ }
     ensures { λ r. ⌜ Reported count (now (list .entry)) (now (list .exit)) r ⌝ }
 {
-    rank_sort::rank(list, count);
-    let valued = rank_totals::valued_count(list, count);
-    let total = rank_totals::total(list, count);
+    crate::sort::rank(list, count);
+    let valued = crate::totals::valued_count(list, count);
+    let total = crate::totals::total(list, count);
     Ranked::Done {
         valued,
         total,

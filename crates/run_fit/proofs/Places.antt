@@ -14,7 +14,7 @@ use Rattle.meaning.specs.Grammar.{Symbol, nonterminal, Grammar, syn, segmentPla
 use Rattle.meaning.specs.Table.{symbolOf}
 use Rattle.meaning.specs.Calls.{Cell, valued, marked, cellsFit, awaited}
 use Rattle.theory_program.specs.Parts.{headOperand, waitLeft, waitPassed, waitMarked, waitInherited, waitSymbol}
-use Rattle.run_fit_past.specs.Passing.{Passes, repeated, repeated-front, fitsFrom, past-end, from-start, from-end, cellsBetween}
+use Rattle.run_fit.specs.past.Passing.{Passes, repeated, repeated-front, fitsFrom, past-end, from-start, from-end, cellsBetween}
 use Rattle.run_fit.specs.Upward.{regrouped, standsFit, placesAbove, cellsOf, cellsAbove}
 use Rattle.run_fit.specs.HasProgram.{HasProgram, waitAt, wordOn, cellsIn, on-word, start-count, start-symbol, symbol-awaited, cells-of}
 

@@ -8,7 +8,7 @@ use Rattle.meaning.specs.Value.{mark}
 use Rattle.meaning.specs.Examples.WordsAndTags.{words}
 use Rattle.meaning.specs.Calls.{stacksFit, valued, marked}
 use Rattle.theory_program.specs.Parts.{waitSymbol}
-use Rattle.run_fit_past.specs.Passing.{fitsFrom}
+use Rattle.run_fit.specs.past.Passing.{fitsFrom}
 use Rattle.run_fit.specs.Upward.{placesAbove, cellsAbove, standsFit}
 use Rattle.meaning.specs.Program.{programOf}
 use Rattle.run_fit.specs.HasProgram.{waitAt, wordOn, cellsIn}

@@ -6,3 +6,7 @@ pub mod HasProgram
 pub mod Cut
 -- Examples: 01's grammar of words and tags, stopped after word open
 pub mod Examples
+-- Stretches of cells: all marked, all with values, all zero
+pub mod cells
+-- Where the registers end that a place tells, from the bottom up
+pub mod past

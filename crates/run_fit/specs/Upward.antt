@@ -14,7 +14,7 @@ use Rattle.meaning.specs.Rules.{WellFormed}
 use Rattle.meaning.specs.Calls.{Cell, valued, marked, cellFits, cellsFit, waitingCells, awaited, placesFit, placeCells, stackFits}
 use Rattle.theory_answers.specs.FitTest.{syn-cells, alone}
 use Rattle.run_registers.specs.Stack.{reverse-replicate}
-use Rattle.run_fit_past.specs.Passing.{unfit, valuedThenMarked}
+use Rattle.run_fit.specs.past.Passing.{unfit, valuedThenMarked}
 use Rattle.theory_base.specs.Members.{and-swap}
 
 -- ---- cells that fit, from the other end

@@ -9,7 +9,7 @@ ghost use Rattle.meaning.specs.Limits.{registersLimit, placesLimit};
 ghost use Rattle.meaning.specs.Grammar.{Grammar, nonterminal, nonterminalBase};
 ghost use Rattle.meaning.specs.Calls.{stacksFit};
 ghost use Rattle.theory_program.specs.Parts.{waitLeft, waitSymbol};
-ghost use Rattle.run_fit_past.specs.Passing.{fitsFrom};
+ghost use Rattle.run_fit.specs.past.Passing.{fitsFrom};
 ghost use Rattle.run_fit.specs.Upward.{placesAbove, cellsAbove, standsFit};
 ghost use Rattle.run_fit.specs.HasProgram.{HasProgram, Readable, RowsAt, waitAt};
 ghost use Rattle.meaning.specs.PublicCalls.{stacksOf};
@@ -18,6 +18,10 @@ use limits::LEFT;
 use limits::MOVES_LIMIT;
 use limits::SEGMENT;
 use limits::TOKENS_LIMIT;
+
+pub mod cells;
+pub mod marked;
+pub mod past;
 
 // More than any place.
 const NO_PLACE: usize = 4294967296;
@@ -101,7 +105,7 @@ fn stand_above(registers: &[i64], at: usize, places: &[u32], program: &[u32]) ->
             if !stands_on(next, word) {
                 return false;
             }
-            reached = run_fit_past::past_place(registers, reached, word, next);
+            reached = crate::past::past_place(registers, reached, word, next);
             if registers.len() < reached {
                 return false;
             }
@@ -113,14 +117,14 @@ fn stand_above(registers: &[i64], at: usize, places: &[u32], program: &[u32]) ->
                 return false;
             }
             let end = alike(places, i + 1, place);
-            reached = run_fit_past::past_alike(registers, reached, word, end - i);
+            reached = crate::past::past_alike(registers, reached, word, end - i);
             i = end;
         }
     }
     if word == 0 {
         return false;
     }
-    run_fit_past::past_valued(registers, reached, program_parts::wait_inherited(word))
+    crate::past::past_valued(registers, reached, program_parts::wait_inherited(word))
         == registers.len()
 }
 
@@ -140,12 +144,12 @@ fn stand(registers: &[i64], places: &[u32], program: &[u32]) -> bool
         if places.len() != 1 {
             return false;
         }
-        return run_fit_past::past_valued(registers, 0, count) == registers.len();
+        return crate::past::past_valued(registers, 0, count) == registers.len();
     }
     if bottom != SEGMENT {
         return false;
     }
-    let at = run_fit_past::past_marked(registers, 0, count);
+    let at = crate::past::past_marked(registers, 0, count);
     stand_above(registers, at, places, program)
 }
 
@@ -179,8 +183,8 @@ pub fn fits(
     if !stand(&registers[..height], &places[..top], program) {
         return false;
     }
-    if !run_fit_marked::all_marked(&registers[height..]) {
+    if !crate::marked::all_marked(&registers[height..]) {
         return false;
     }
-    run_fit_cells::all_zero(&places[top..])
+    crate::cells::all_zero(&places[top..])
 }

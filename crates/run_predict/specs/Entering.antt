@@ -33,7 +33,7 @@ use Rattle.run_moves.specs.Laid.{LaidIn, laid-size}
 use Rattle.run_moves.specs.Ahead.{Ahead, ahead-scheme, place-begins}
 use Rattle.run_moves.specs.Held.{Held, Made, Hand, hand-nonterminal, hand-proper, next-is}
 use Rattle.run_moves.specs.Passing.{lookOf, look-number, comingOf, coming-look}
-use Rattle.run_alternatives.specs.Predicting.{recordOf, holdsAt, holds-here, at-record, at-scheme, Leads, Led}
+use Rattle.run_predict.specs.alternatives.Predicting.{recordOf, holdsAt, holds-here, at-record, at-scheme, Leads, Led}
 
 -- the tokens that are counted after a step: a predict counts none
 abbrev pub tokensOf : Run → Step → ℕ

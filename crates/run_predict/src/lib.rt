@@ -12,6 +12,8 @@ ghost use Rattle.run_predict.specs.Entering.{tokensOf, enteredBy, placed
 use run_moves::Run;
 use run_moves::Step;
 
+pub mod alternatives;
+
 // The place of production p - 1 is pushed; its scheme begins at `at`.
 fn enter(places: &mut [u32], run: Run, p: usize, at: usize) -> Step
     requires { ⌜ (1 ≤ p) × (p ≤ productionsLimit) × (run .places ≤ length (now places)) × (run .moves < movesLimit) ⌝ }
@@ -39,13 +41,13 @@ pub fn search(
     requires { ⌜ (ReadyForMove (now program) (now registers) (now places) run predictOperation × (look < 64)) × ((first ≡ directoryNumber (getD (now program) (9 + 64 * headOperand (getD (now program) (run .at) 0) + look) 0)) × (first ≡ 0 → ⊥)) ⌝ }
     ensures { λ r. ⌜ ((ahead : Coming) → asLook ahead ≡ lookOf look → Answers (now (program .entry)) (now (registers .entry)) (now (places .entry)) run ahead (now (registers .entry)) (now (places .exit)) r) × (tokensOf run r ≡ run .tokens) ⌝ }
 {
-    let p = run_alternatives::find(registers, run.registers, program, look, first);
+    let p = crate::alternatives::find(registers, run.registers, program, look, first);
     if p == 0 {
         return Step::Blocked(22);
     }
     let at = run_moves::word_at(
         program,
-        run_alternatives::record_of(program, p) + program_parts::SCHEME,
+        crate::alternatives::record_of(program, p) + program_parts::SCHEME,
     );
     enter(places, run, p, at)
 }

@@ -9,7 +9,7 @@ ghost use Rattle.meaning.specs.Program.{addOperation, evaluateOperation, predic
 ghost use Rattle.theory_program.specs.Parts.{headOperation, headOperand, directoryNumber};
 ghost use Rattle.run_moves.specs.Held.{ReadyForMove};
 ghost use Rattle.run_moves.specs.Returns.{Returns};
-ghost use Rattle.run_entering.specs.Predicting.{Predicts};
+ghost use Rattle.run_turn.specs.entering.Predicting.{Predicts};
 ghost use Rattle.run_next_token.specs.Operations.{Running};
 ghost use Rattle.run_next_token.specs.Turns.{Fed, Turned};
 ghost use Rattle.run_turn.specs.Stages.{Passes, Low, Stage, Prepared, TurnsOn};
@@ -19,6 +19,8 @@ use run_moves::Run;
 use run_moves::Step;
 use run_next_token::read_next;
 use run_remove::RETURNS;
+
+pub mod entering;
 
 // How many words the return addresses that are kept take: a place and its address each.
 pub const RETURN_WORDS: usize = 2 * RETURNS;
@@ -106,7 +108,7 @@ fn predict_token(
 {
     let entry = run_predict::entry_at(program, run, look);
     if program_parts::DIRECTORY_SCHEME <= entry {
-        return run_entering::enter_and_read(places, program, run, look, entry);
+        return crate::entering::enter_and_read(places, program, run, look, entry);
     }
     if entry == 0 {
         return Step::Blocked(run_moves::unexpected(look));

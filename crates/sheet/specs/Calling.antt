@@ -19,7 +19,7 @@ use Rattle.theory_complete.specs.CompleteUnique.{only}
 use Rattle.prepare.specs.declared.Made as Made
 use Rattle.prepare.specs.declared.Made.the-variants as M
 use Rattle.prepare.specs.Making.{MadeAs, Case, ProgramStands}
-use Rattle.sheet_moves.specs.NodeInMemory.{tokensAs}
+use Rattle.sheet.specs.tree.moves.NodeInMemory.{tokensAs}
 use Rattle.sheet_answers.specs.declared.Answer as Answer
 use Rattle.sheet_answers.specs.declared.Answer.the-variants.{TableRefused}
 use Rattle.sheet_answers.specs.Answers.{sheetIs}

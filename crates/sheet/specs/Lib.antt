@@ -6,3 +6,5 @@ pub mod Segments
 pub mod Starting
 -- The call from a table's bytes: the table's refusal, or what is done under its grammar
 pub mod Calling
+-- The recursive evaluator: a node goes through its children, and each child is a node again
+pub mod tree

@@ -43,9 +43,9 @@ use Rattle.run_registers.specs.Stack.{stack}
 use Rattle.run_registers.specs.Laid.{laid-stack}
 use Rattle.run_fit.specs.HasProgram.{Readable}
 use Rattle.run_moves.specs.Held.{Held, AtHand, some, nothing, at-hand, bounds}
-use Rattle.sheet_moves.specs.NodeInMemory.{tokensAs, isInside, at-look, leafHere, none-left, one-left}
-use Rattle.sheet_steps.specs.Numbers as Walked
-use Rattle.sheet_steps.specs.Cycle.{NodeAt, NodeDone, Listed, none-listed, list-more, rests-look}
+use Rattle.sheet.specs.tree.moves.NodeInMemory.{tokensAs, isInside, at-look, leafHere, none-left, one-left}
+use Rattle.sheet.specs.tree.steps.Numbers as Walked
+use Rattle.sheet.specs.tree.steps.Cycle.{NodeAt, NodeDone, Listed, none-listed, list-more, rests-look}
 use Rattle.sheet_answers.specs.declared.Answer as Answer
 use Rattle.sheet_answers.specs.declared.Answer.the-variants.{Value, Refused, TableRefused}
 use Rattle.sheet_answers.specs.Answers.{sheetIs}

@@ -13,9 +13,9 @@ use Rattle.meaning.specs.Limits.{registersLimit, placesLimit}
 use Rattle.meaning.specs.Base.{all}
 use Rattle.meaning.specs.Rules.{fourBytes}
 use Rattle.run_fit.specs.HasProgram.{Readable}
-use Rattle.sheet_steps.specs.Numbers.{runIn, walkedIn, low, Fits, kept-fits}
-use Rattle.sheet_steps.specs.Cycle.{NodeAt, NodeDone}
-use Rattle.sheet_steps.specs.Walks.{NodeIn, NodeOut}
+use Rattle.sheet.specs.tree.steps.Numbers.{runIn, walkedIn, low, Fits, kept-fits}
+use Rattle.sheet.specs.tree.steps.Cycle.{NodeAt, NodeDone}
+use Rattle.sheet.specs.tree.steps.Walks.{NodeIn, NodeOut}
 use Rattle.sheet_answers.specs.declared.Answer as Answer
 use Rattle.sheet_answers.specs.declared.Answer.the-variants.{Refused}
 use Rattle.sheet.specs.Opening.{firstRun}

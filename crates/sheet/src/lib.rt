@@ -8,7 +8,7 @@ ghost use Rattle.meaning.specs.Rules.{fourBytes};
 ghost use lib.Dec.{T};
 ghost use Rattle.meaning_sheet.specs.SheetCalls.{Sheets};
 ghost use Rattle.run_fit.specs.HasProgram.{Readable};
-ghost use Rattle.sheet_steps.specs.Numbers.{low, runIn};
+ghost use Rattle.sheet.specs.tree.steps.Numbers.{low, runIn};
 ghost use Rattle.sheet.specs.Starting.{Lacking};
 ghost use Rattle.sheet_answers.specs.Answers.{sheetIs};
 ghost use Rattle.sheet.specs.Segments.{Opens, Cells, Ends, Ended, SegmentDone, Under};
@@ -19,6 +19,8 @@ use limits::TOKENS_BEFORE;
 use prepare::Made;
 use run_moves::Run;
 use sheet_answers::Answer;
+
+pub mod tree;
 
 // The start symbol is left: the segment is over, or a token follows. 35 and 20 come before the 21.
 fn ended(registers: &[i64], program: &[u32], kinds: &[u8], run: Run, end: usize) -> Answer
@@ -63,7 +65,7 @@ fn over(registers: &[i64], program: &[u32], kinds: &[u8], numbers: &[u64; 8]) ->
 {
     let n = numbers[6] as usize;
     let end = numbers[5] as usize;
-    let run = sheet_steps::run_of(numbers);
+    let run = crate::tree::steps::run_of(numbers);
     ended(&registers[..n], program, kinds, run, end)
 }
 
@@ -105,7 +107,7 @@ fn segment(
     numbers[3] = 1;
     numbers[6] = n as u64;
     numbers[7] = k as u64;
-    if sheet_walk::node(
+    if crate::tree::node(
         registers,
         places,
         program,

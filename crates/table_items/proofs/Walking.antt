@@ -17,8 +17,8 @@ use Rattle.table_fields.proofs.Judged.{judge-not, stage-later}
 use Rattle.table_rules.specs.Rule.{Small, ruleFault, conditionFault}
 use Rattle.table_rules.specs.Note.{Notes, rulesAfter, GapsAnswered}
 use Rattle.table_rule_fields.proofs.RuleJudged.{rule-judged}
-use Rattle.table_rule_conditions.proofs.ConditionJudged.{condition-judged}
-use Rattle.table_rule_note.proofs.Noting.{notes-fine}
+use Rattle.table_rule_fields.proofs.conditions.ConditionJudged.{condition-judged}
+use Rattle.table_rule_fields.proofs.note.Noting.{notes-fine}
 use Rattle.table_items.specs.declared.Items.{Items}
 use Rattle.table_items.specs.Progress.{Over, Setting, settingOf, Around, stateIn, ItemTaken, Walked, Walking, ItemsRead, ItemRead, refusedAfter, Next, endOf}
 use Rattle.table_counts.proofs.Steps.{endBy}

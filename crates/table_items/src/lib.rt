@@ -7,7 +7,7 @@ ghost use Rattle.meaning.specs.Table.{byte};
 ghost use Rattle.table_rules.specs.Rule.{Small};
 ghost use Rattle.table_items.specs.Progress.{Sized, Over, settingOf, ItemTaken, ItemsReadFrom, ItemRead, refusedAfter, Next, endOf};
 use limits::POSITIONS;
-use table_rule_conditions::condition_fault;
+use table_rule_fields::conditions::condition_fault;
 use table_rule_fields::take_rule;
 
 // Where the rules and conditions of a table that were read end, and how many they are (number 0); or the field that is refused.
@@ -147,7 +147,7 @@ pub fn read_items(
     let mut done = before;
     loop {
         if is_over(table, done.at) {
-            let gap = table_rule_note::has_gap(width, inh, syn, note);
+            let gap = table_rule_fields::note::has_gap(width, inh, syn, note);
             return finish(gap, offset, done);
         }
         done = read_item(table, done, width, inh, syn, note);

@@ -17,11 +17,11 @@ use Rattle.table_fields.proofs.Cases.{lt-or-le}
 use Rattle.table_fields.proofs.Demands.{equal-yes, equal-no, below-yes, below-no}
 use Rattle.table_rules.specs.Rule.{bit, classAt, classIn, operandCount, OperandsFit, ruleItems}
 use Rattle.table_rules.proofs.Laws.{class-first}
-use Rattle.table_rule_note.proofs.Bits.{bit-set, one-bit}
+use Rattle.table_rule_fields.proofs.note.Bits.{bit-set, one-bit}
 use Rattle.table_rule_fields.proofs.Sound.{class-bytes, note-bytes, sound-left, sound-right}
 use Rattle.table_occurrences.specs.OccurrenceBits.{Settled, notedBy}
-use Rattle.table_rule_note.proofs.Noting.{less-one}
-use Rattle.table_rule_note.proofs.Gaps.{or-parts}
+use Rattle.table_rule_fields.proofs.note.Noting.{less-one}
+use Rattle.table_rule_fields.proofs.note.Gaps.{or-parts}
 
 -- ---- a target settled
 

@@ -14,7 +14,7 @@ use Rattle.table_fields.proofs.Cases.{lt-or-le}
 use Rattle.table_fields.proofs.Demands.{equal-yes, equal-no}
 use Rattle.table_rules.specs.Rule.{Small, bit, classAt}
 use Rattle.table_rules.proofs.Laws.{class-inside, class-first, class-last}
-use Rattle.table_rule_note.proofs.Bits.{bit-zero}
+use Rattle.table_rule_fields.proofs.note.Bits.{bit-zero}
 use Rattle.table_rule_fields.proofs.Sound.{output-left, output-right, input-left, input-right}
 use Rattle.theory_base.specs.Members.{replicate-at}
 use Rattle.table_occurrences.specs.OccurrenceBits.{rangeWord, inputWord, outputWord, otherWord, Filled, Inputs, Settled}

@@ -10,8 +10,8 @@ use lib.ListN.{getD}
 use Rattle.meaning.specs.Limits.{attributesLimit, positionsLimit}
 use Rattle.table_fields.proofs.Cases.{lt-or-le}
 use Rattle.table_rules.specs.Rule.{Small, bit, classAt}
-use Rattle.table_rule_note.proofs.Bits.{bit-both, bit-suc, bit-zero}
-use Rattle.table_rule_note.proofs.Noting.{notes-same}
+use Rattle.table_rule_fields.proofs.note.Bits.{bit-both, bit-suc, bit-zero}
+use Rattle.table_rule_fields.proofs.note.Noting.{notes-same}
 use Rattle.table_occurrences.specs.OccurrenceBits.{outputWord, Filled, Settled, notedIn, NoteOf}
 use Rattle.table_occurrences.proofs.Laws.{inside, output-class, class-output}
 

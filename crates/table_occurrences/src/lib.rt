@@ -45,7 +45,7 @@ pub fn note_of(
     requires { ⌜ Small width (now inh) (now syn) ⌝ }
     ensures { λ r. ⌜ NoteOf width (now (inh .entry)) (now (syn .entry)) (now (settled .entry)) r ⌝ }
 {
-    let mut note = table_rule_note::begin();
+    let mut note = table_rule_fields::note::begin();
     let mut k: usize = 0;
     while k <= width {
         let outputs = output_word(k, table_fields::wide(inh[k]), table_fields::wide(syn[k]));

@@ -19,7 +19,7 @@ use Rattle.table_fields.proofs.Judged.{judge-stands}
 use Rattle.table_rules.specs.Rule.{Small, bit, classIn, fourAt, lengthOf, operandCount, operandClass, operandPlace, divisorFits, ruleOrder, ruleItems, ruleFault}
 use Rattle.table_rules.specs.Note.{Placed, Notes, occurrence, isSet}
 use Rattle.table_rules.proofs.Laws.{ap3, class-inside, class-first, class-last}
-use Rattle.table_rule_note.proofs.Noting.{notes-bit}
+use Rattle.table_rule_fields.proofs.note.Noting.{notes-bit}
 use Rattle.table_rules.proofs.Order.{divisor-same}
 use Rattle.table_rules.proofs.ClassDemands.{Classed, input, classed, uses-by, entry, state}
 

@@ -13,6 +13,10 @@ use limits::DIVISOR;
 use limits::POSITIONS;
 use limits::RULES;
 
+pub mod conditions;
+pub mod note;
+pub mod operands;
+
 // The length of a rule's body by its function.
 fn length_of(f: usize) -> usize
     ensures { λ r. ⌜ (r ≡ lengthOf f) × (3 + 2 * operandCount f ≤ r) ⌝ }
@@ -180,13 +184,13 @@ pub fn judge_rule_items(
         return 0;
     }
     let target = table_rules::class_in(width, inh, syn, body, 0);
-    let first = table_rule_operands::operand_class(width, inh, syn, body, n, 0);
-    let second = table_rule_operands::operand_class(width, inh, syn, body, n, 1);
-    let number = table_rule_operands::class_fault(target, first, second);
+    let first = crate::operands::operand_class(width, inh, syn, body, n, 0);
+    let second = crate::operands::operand_class(width, inh, syn, body, n, 1);
+    let number = crate::operands::class_fault(target, first, second);
     if number != 0 {
         return number;
     }
-    table_rule_operands::rule_order(note, n, body)
+    crate::operands::rule_order(note, n, body)
 }
 
 // The lowest number that applies to the body of a tag 4 field after r others, or 0.
@@ -240,6 +244,6 @@ pub fn take_rule(
     }
     let position = table_fields::wide(body[0]);
     let attribute = table_fields::wide(body[1]);
-    table_rule_note::note_down(note, position, attribute);
+    crate::note::note_down(note, position, attribute);
     0
 }

@@ -13,9 +13,9 @@ use Rattle.table_fields.specs.Field.{bodyAt}
 use Rattle.table_fields.proofs.Demands.{equal-yes, equal-no}
 use Rattle.table_fields.proofs.Rest.{body-length}
 use Rattle.table_rules.specs.Rule.{Small, bit, ones, filledAt, settled, allCount, completeNote, classAt}
-use Rattle.table_rule_note.proofs.Bits.{bit-suc, bit-first, bit-shifted}
-use Rattle.table_rule_note.proofs.Noting.{notes-begin, notes-taken}
-use Rattle.table_rule_note.proofs.Gaps.{gaps-answered}
+use Rattle.table_rule_fields.proofs.note.Bits.{bit-suc, bit-first, bit-shifted}
+use Rattle.table_rule_fields.proofs.note.Noting.{notes-begin, notes-taken}
+use Rattle.table_rule_fields.proofs.note.Gaps.{gaps-answered}
 use Rattle.table_rule_fields.proofs.Sound.{output-left, output-right}
 use Rattle.table_rows.specs.RowWritten.{symbolByte, Written}
 use Rattle.outline.specs.Counts.{countAt, synthesizedAt}

@@ -121,7 +121,10 @@ fn is_range(inputs: &[u16; POSITIONS], body: &[u8]) -> bool
     if !table_occurrence_rules::is_input(inputs, POSITIONS, body, 1) {
         return false;
     }
-    table_rule_conditions::in_order(table_rules::four_at(body, 3), table_rules::four_at(body, 7))
+    table_rule_fields::conditions::in_order(
+        table_rules::four_at(body, 3),
+        table_rules::four_at(body, 7),
+    )
 }
 
 // True only of the body of a comparison, of kind 1 or 2, that nothing is wrong with but perhaps its number.

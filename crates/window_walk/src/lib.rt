@@ -18,6 +18,8 @@ use window_found::Numbers;
 use window_found::Turn;
 use window_found::Walk;
 
+pub mod turn;
+
 // The value that leaves, by the one that the walk has read last: none where there is room.
 fn leaving(size: usize, held: usize, last: i64) -> i64
     ensures { λ r. ⌜ r ≡ leavingOf size held last ⌝ }
@@ -76,7 +78,7 @@ pub fn walk_back(
     };
     let mut left = at.held;
     while 0 < left {
-        let Turn::On(further) = window_turn::one_turn(slots, area, next, value, w, leaders) else {
+        let Turn::On(further) = crate::turn::one_turn(slots, area, next, value, w, leaders) else {
             return Checked::Wrong;
         };
         w = further;

@@ -7,7 +7,7 @@ use lib.ListN.{length}
 use Rattle.meaning.specs.Limits.{attributesLimit}
 use Rattle.meaning.specs.Differences.{closed, closing}
 use Rattle.theory_differences.specs.Closing.{Small, room}
-use Rattle.clash_differences.proofs.Laws.{closing-turn, small-turn, room-low}
+use Rattle.clash_cycles.proofs.differences.Laws.{closing-turn, small-turn, room-low}
 use Rattle.clash_cycles.proofs.close.Statement.{statement}
 use Rattle.clash_cycles.proofs.close.Tie as tie
 

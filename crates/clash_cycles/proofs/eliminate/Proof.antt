@@ -5,7 +5,7 @@ use denote.Ref.{now}
 use lib.ListN.{length}
 use Rattle.meaning.specs.Differences.{relaxed}
 use Rattle.theory_differences.specs.Closing.{relaxed-small}
-use Rattle.clash_differences.proofs.Laws.{rows-turn}
+use Rattle.clash_cycles.proofs.differences.Laws.{rows-turn}
 use Rattle.clash_cycles.proofs.eliminate.Statement.{statement}
 use Rattle.clash_cycles.proofs.eliminate.Tie as tie
 

@@ -4,7 +4,7 @@ use mathlib.Core.Path.{_≡_, refl, sym, ap, _∙_}
 use denote.Ref.{now}
 use lib.ListN.{length}
 use Rattle.meaning.specs.Differences.{rowRelaxed}
-use Rattle.clash_differences.proofs.Laws.{row-small, row-turn}
+use Rattle.clash_cycles.proofs.differences.Laws.{row-small, row-turn}
 use Rattle.clash_cycles.proofs.relax_row.Statement.{statement}
 use Rattle.clash_cycles.proofs.relax_row.Tie as tie
 

@@ -5,7 +5,7 @@ use Rattle.meaning.specs.Limits.{attributesLimit}
 use Rattle.meaning.specs.Differences.{noneNegative}
 use Rattle.theory_differences.specs.Closing.{small-more, room}
 use Rattle.theory_differences.specs.Decided.{limit}
-use Rattle.clash_differences.proofs.Laws.{tested-is}
+use Rattle.clash_cycles.proofs.differences.Laws.{tested-is}
 use Rattle.clash_cycles.proofs.satisfiable.Statement.{statement}
 use Rattle.clash_cycles.proofs.satisfiable.Tie as tie
 

@@ -4,7 +4,7 @@ use borrow.Author.Needs.{sfits-of}
 use Rattle.meaning.specs.Table.{signed}
 use Rattle.value.specs.Overflow.{in-range-size}
 use Rattle.value.proofs.Bits.{held}
-use Rattle.clash_conditions.proofs.Laws.{held-size}
+use Rattle.clash_entries.proofs.conditions.Laws.{held-size}
 use borrow.Author.Needs.{needs}
 use Rattle.clash_entries.proofs.bound_at.Statement.{statement}
 use Rattle.clash_entries.proofs.bound_at.Tie as tie

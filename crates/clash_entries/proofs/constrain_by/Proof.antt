@@ -6,11 +6,11 @@ use mathlib.Core.Path.{_≡_, sym, _∙_}
 use lib.ListN.{length, take, drop}
 use Rattle.meaning.specs.Grammar.{Production}
 use Rattle.meaning.specs.Table.{byte}
-use Rattle.clash_conditions.specs.Walk.{Going, going-start, going-done, going-over, going-proper, going-inside, going-more}
+use Rattle.clash_entries.specs.conditions.Walk.{Going, going-start, going-done, going-over, going-proper, going-inside, going-more}
 use Rattle.meaning.specs.Differences.{constrained}
 use Rattle.theory_differences.specs.Closing.{Small}
 use Rattle.theory_differences.specs.Decided.{limit}
-use Rattle.clash_conditions.specs.EntryConditions.{Stretch, stretch-inside}
+use Rattle.clash_entries.specs.conditions.EntryConditions.{Stretch, stretch-inside}
 use Rattle.clash_entries.proofs.constrain_by.Statement.{statement}
 use Rattle.clash_entries.proofs.constrain_by.Tie as tie
 

@@ -2,7 +2,7 @@ use native.Mathlib.Omega.{arith}
 use mathlib.Core.Path.{sym, _∙_, ap}
 use borrow.Author.Needs.{sfits-of}
 use Rattle.meaning.specs.Value.{added}
-use Rattle.clash_conditions.proofs.Laws.{held-size, offset-none, offset-some}
+use Rattle.clash_entries.proofs.conditions.Laws.{held-size, offset-none, offset-some}
 use Rattle.value.proofs.Bits.{held}
 use borrow.Author.Needs.{needs}
 use Rattle.clash_entries.proofs.offset.Statement.{statement}

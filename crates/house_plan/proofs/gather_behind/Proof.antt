@@ -1,7 +1,7 @@
 use native.Mathlib.Omega.{arith}
 use mathlib.Core.Path.{sym, subst, _∙_}
 use denote.Ref.{now}
-use Rattle.house_arrange.specs.Promises.{Room}
+use Rattle.house_sort.specs.arrange.Promises.{Room}
 use Rattle.house_plan.proofs.Planning.{length-part, behind-few, behind}
 use borrow.Author.Needs.{needs}
 use Rattle.house_plan.proofs.gather_behind.Statement.{statement}

@@ -4,8 +4,8 @@ use Rattle.meaning_inner.specs.Inner.{innerEffect, innerOf}
 use Rattle.records.specs.Records.{stateIs}
 use Rattle.prepare.specs.Beginning.{standing-shown, standing-readable}
 use Rattle.prepare.proofs.Beginning.{ready-case}
-use Rattle.inner_records.specs.Records.{callIs, innerHandedIs}
-use Rattle.inner_opening.specs.Beginning.{turned-call, standing-call}
+use Rattle.inner.specs.states.Records.{callIs, innerHandedIs}
+use Rattle.inner.specs.opening.Beginning.{turned-call, standing-call}
 use borrow.Author.Needs.{needs}
 use Rattle.inner.proofs.perform.Statement.{statement}
 use Rattle.inner.proofs.perform.Tie as tie

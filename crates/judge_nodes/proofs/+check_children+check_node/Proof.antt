@@ -4,8 +4,8 @@ use denote.Ref.{now}
 use native.Mathlib.Omega.{arith}
 use borrow.Author.Needs.{needs}
 use Rattle.outline.specs.Images.{sizeAt}
-use Rattle.judge_parts.specs.Checked.{NodeIs, Begins, ChildrenPassed}
-use Rattle.judge_parts.specs.Laws as L
+use Rattle.judge_nodes.specs.parts.Checked.{NodeIs, Begins, ChildrenPassed}
+use Rattle.judge_nodes.specs.parts.Laws as L
 use Prim.Native.Nat.{ℕ, _<_}
 use borrow.Fn.Kinds.{In}
 use borrow.Fn.PlainCycle.{Measures, is, falls, and}
@@ -15,10 +15,10 @@ use Rattle.judge_nodes.proofs.+check_children+check_node.Lts-check_chil
 use Rattle.judge_nodes.proofs.check_node.Reads as check-node
 use Rattle.judge_nodes.proofs.check_node.Kinds as check-node-kinds
 use Rattle.judge_nodes.proofs.+check_children+check_node.Lts-check_node as check-node-lts
-use Rattle.judge_parts.proofs.begin.Reads as begin-reads
-use Rattle.judge_parts.proofs.closed.Reads as closed-reads
-use Rattle.judge_parts.proofs.tree_at.Reads as tree-at-reads
-use Rattle.judge_parts.proofs.mark_of.Reads as mark-of-reads
+use Rattle.judge_nodes.proofs.parts.begin.Reads as begin-reads
+use Rattle.judge_nodes.proofs.parts.closed.Reads as closed-reads
+use Rattle.judge_nodes.proofs.parts.tree_at.Reads as tree-at-reads
+use Rattle.judge_nodes.proofs.parts.mark_of.Reads as mark-of-reads
 use Rattle.outline.proofs.size_of.Reads as size-of-reads
 use Rattle.outline.proofs.symbol_of.Reads as symbol-of-reads
 use Rattle.judge_nodes.proofs.+check_children+check_node.{statement}

@@ -6,7 +6,7 @@ use mathlib.Core.Path.{_≡_}
 use denote.Ref.{now}
 use Rattle.records.specs.Records.{stateIs}
 use Rattle.run_lent.specs.Performing.{judged-fitting, judged-running}
-use Rattle.preview_lent.specs.Answering.{alike-cleared, tidied-is}
+use Rattle.preview.specs.lent.Answering.{alike-cleared, tidied-is}
 use Rattle.preview.specs.Answering.{SetAnswered, set-is}
 use borrow.Author.Needs.{needs}
 use Rattle.preview.proofs.may_lent.Statement.{statement}

@@ -10,7 +10,7 @@ use Rattle.meaning.specs.Machine.{next}
 use Rattle.theory_program.specs.Parts.{headOperand, directoryNumber}
 use Rattle.theory_program.specs.Addresses.{segment-at}
 use Rattle.theory_program.specs.WordsStand.{stands-within}
-use Rattle.run_alternatives.specs.Predicting.{recordOf}
+use Rattle.run_predict.specs.alternatives.Predicting.{recordOf}
 use Rattle.run_moves.specs.Held.{Made, bounds}
 use Rattle.run_moves.specs.Passing.{comingOf, coming-look}
 use Rattle.run_predict.specs.Entering.{tokensOf, entered-tokens, first-led, first-holds, found-first, blocked-none, entering-small, entering-inside, made-entering}

@@ -14,7 +14,7 @@ use Rattle.run_next_token.specs.Operations.{Running}
 use Rattle.run_next_token.specs.Turns.{Turned, turned-predict}
 use Rattle.run_next_token.specs.Reading.{turned-after, turned-then}
 use Rattle.run_predict.specs.Entering.{tokensOf}
-use Rattle.run_entering.specs.Predicting.{Predicts}
+use Rattle.run_turn.specs.entering.Predicting.{Predicts}
 use Rattle.run_turn.proofs.search_and_read.Statement.{statement}
 use Rattle.run_turn.proofs.search_and_read.Tie as tie
 

@@ -2,7 +2,7 @@ use mathlib.Core.Path.{sym, ap, ap₂, _∙_}
 use lib.Seq.{length-take-le}
 use denote.Ref.{now}
 use Rattle.meaning.specs.PublicCalls.{stacksOf}
-use Rattle.sheet_steps.specs.Numbers.{low-written, long-written}
+use Rattle.sheet.specs.tree.steps.Numbers.{low-written, long-written}
 use borrow.Author.Needs.{needs}
 use Rattle.sheet.proofs.open.Statement.{statement}
 use Rattle.sheet.proofs.open.Tie as tie

@@ -2,7 +2,7 @@ use mathlib.Core.Path.{sym, subst}
 use lib.ListN.{getD}
 use lib.Seq.{length-take-le}
 use denote.Ref.{now}
-use Rattle.sheet_steps.specs.Numbers.{low}
+use Rattle.sheet.specs.tree.steps.Numbers.{low}
 use Rattle.sheet.specs.Segments.{Ended, Ends}
 use borrow.Author.Needs.{needs}
 use Rattle.sheet.proofs.over.Statement.{statement}

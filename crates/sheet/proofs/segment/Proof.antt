@@ -6,7 +6,7 @@ use lib.ListN.{getD}
 use denote.Ref.{now}
 use Rattle.theory_program.specs.Addresses.{segment-at}
 use Rattle.theory_program.specs.WordsStand.{stands-within}
-use Rattle.sheet_steps.specs.Walks.{NodeOut}
+use Rattle.sheet.specs.tree.steps.Walks.{NodeOut}
 use Rattle.sheet.specs.Starting.{firstNumbers, room-left, whole-lacking, whole-in, whole-failed, whole-ended, whole-over}
 use borrow.Author.Needs.{needs}
 use Rattle.sheet.proofs.segment.Statement.{statement}

@@ -1,7 +1,7 @@
 use mathlib.Core.Path.{refl, sym, _∙_}
 use native.Mathlib.Omega.{arith}
 use borrow.Author.Needs.{needs}
-use Rattle.table_rule_note.proofs.Noting.{notes-refused, taken-target, notes-taken}
+use Rattle.table_rule_fields.proofs.note.Noting.{notes-refused, taken-target, notes-taken}
 use Rattle.table_rule_fields.proofs.take_rule.Statement.{statement}
 use Rattle.table_rule_fields.proofs.take_rule.Tie as tie
 

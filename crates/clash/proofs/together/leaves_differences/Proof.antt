@@ -2,7 +2,7 @@ use mathlib.Core.Path.{refl, ap, _∙_}
 use Rattle.meaning.specs.Differences.{constrained}
 use Rattle.meaning.specs.Grammar.{productionAt}
 use Rattle.outline.specs.Outline.{grammarIn}
-use Rattle.clash_conditions.specs.Walk.{afterAll}
+use Rattle.clash_entries.specs.conditions.Walk.{afterAll}
 use Rattle.clash.proofs.Laws.{stretch-slice, closed-solvable}
 use borrow.Author.Needs.{needs}
 use Rattle.clash.proofs.together.leaves_differences.Statement.{statement}

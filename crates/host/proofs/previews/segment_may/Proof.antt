@@ -4,7 +4,7 @@ use mir.Facts.{toZ-ofZ}
 use Rattle.meaning.specs.Program.{programOf}
 use Rattle.meaning.specs.PublicCalls.{stacksOf}
 use Rattle.meaning_preview.specs.Preview.{mays}
-use Rattle.host_preview_numbers.specs.Previewed.{may-passed-on}
+use Rattle.host.specs.may_numbers.Previewed.{may-passed-on}
 use borrow.Author.Needs.{needs}
 use Rattle.host.proofs.previews.segment_may.Statement.{statement}
 use Rattle.host.proofs.previews.segment_may.Tie as tie

@@ -1,4 +1,4 @@
-use Rattle.host_rank_numbers.specs.Suggested.{passed-on}
+use Rattle.host_answers.specs.ranked.Suggested.{passed-on}
 use borrow.Author.Needs.{needs}
 use Rattle.host.proofs.ranking.segment_rank.Statement.{statement}
 use Rattle.host.proofs.ranking.segment_rank.Tie as tie

@@ -1,5 +1,5 @@
 use denote.Ref.{now}
-use Rattle.host_judge_numbers.specs.JudgeLent.{judged-lent}
+use Rattle.host_answers.specs.judged.JudgeLent.{judged-lent}
 use borrow.Author.Needs.{needs}
 use Rattle.host.proofs.sheets.segment_judge.Statement.{statement}
 use Rattle.host.proofs.sheets.segment_judge.Tie as tie

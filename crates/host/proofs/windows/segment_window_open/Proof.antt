@@ -1,5 +1,5 @@
 use Rattle.window.specs.Answers.{answerIs}
-use Rattle.host_window_numbers.specs.Windows.{window-passed-on}
+use Rattle.host_answers.specs.windows.Windows.{window-passed-on}
 use borrow.Author.Needs.{needs}
 use Rattle.host.proofs.windows.segment_window_open.Statement.{statement}
 use Rattle.host.proofs.windows.segment_window_open.Tie as tie

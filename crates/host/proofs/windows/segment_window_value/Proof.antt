@@ -3,7 +3,7 @@ use denote.Ref.{now}
 use mir.Facts.{toZ-ofZ}
 use Rattle.meaning_window.specs.Window.{bringsAnswer}
 use Rattle.window.specs.Answers.{answerIs}
-use Rattle.host_window_numbers.specs.Windows.{finishedAs, window-passed-on}
+use Rattle.host_answers.specs.windows.Windows.{finishedAs, window-passed-on}
 use borrow.Author.Needs.{needs}
 use Rattle.host.proofs.windows.segment_window_value.Statement.{statement}
 use Rattle.host.proofs.windows.segment_window_value.Tie as tie

@@ -1,2 +1,0 @@
--- The answer on a table that is read whole
-pub mod Concludes

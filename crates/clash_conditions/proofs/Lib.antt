@@ -1,2 +1,0 @@
--- The ways of the functions on one field and on intervals
-pub mod Laws

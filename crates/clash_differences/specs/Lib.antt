@@ -1,2 +1,0 @@
--- What the test of a diagonal says
-pub mod Tested

@@ -1,0 +1,2 @@
+-- The entry conditions of one production, read from its fields in the table
+pub mod conditions

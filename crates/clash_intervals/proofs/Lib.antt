@@ -1,2 +1,0 @@
--- The ways of the test of two productions' intervals
-pub mod Laws

@@ -1,0 +1,4 @@
+-- The answer of a ranking as lent numbers
+
+-- What the ranking passes on, in lent numbers
+pub mod Suggested

@@ -1,2 +1,0 @@
--- An answer of the writer of house order as three numbers: the length, with 0 and 0; or 0, with the refusal's number and offset
-pub mod HouseNumbers

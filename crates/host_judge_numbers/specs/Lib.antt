@@ -1,2 +1,0 @@
--- The answer of a check of a sheet as the numbers that a host lends
-pub mod JudgeLent

@@ -1,2 +1,0 @@
--- What the ranking passes on, in lent numbers
-pub mod Suggested

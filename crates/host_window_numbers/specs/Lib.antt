@@ -1,2 +1,0 @@
--- A window's answer and a finish's answer as the numbers that a host lends
-pub mod Windows

@@ -1,2 +1,0 @@
--- What collecting and gathering promise
-pub mod Promises

@@ -1,4 +1,0 @@
--- A part of a slice that is cut where the slice ends
-pub mod Parts
--- Two keys compared: as long as their bytes are the same, what is left of them decides
-pub mod Comparing

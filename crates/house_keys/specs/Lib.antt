@@ -1,2 +1,0 @@
--- What comparing two keys promises
-pub mod Promises

@@ -1,2 +1,0 @@
--- What a merge promises
-pub mod Promises

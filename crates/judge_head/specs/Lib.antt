@@ -1,2 +1,0 @@
--- A node's own record, and what is told of it
-pub mod Heads

@@ -1,2 +1,0 @@
--- The set of tokens that are let through, token by token
-pub mod Collecting

@@ -1,2 +1,0 @@
--- Scratch cells: what stands in the caller's cells is copied to cleared ones, a token is tried there, and what the moves reached is cleared again
-pub mod Scratch

@@ -1,2 +1,0 @@
--- Candidates that are evaluated, and those that are left
-pub mod Each

@@ -1,2 +1,0 @@
--- Small numbers as signed words
-pub mod SmallNumbers

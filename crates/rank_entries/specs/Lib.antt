@@ -1,2 +1,0 @@
--- Entries in the list
-pub mod Entries

@@ -1,2 +1,0 @@
--- Stacks of which all but the first cells are clear, and what is known of them after a candidate
-pub mod Opening

@@ -1,2 +1,0 @@
--- Predict: the search along the directory and the next-words by the words of the program, and the push of the production found
-pub mod Predicting

@@ -1,2 +1,0 @@
--- Tests of cells by their bits: gathered over the cells, none where all pass
-pub mod Gathering

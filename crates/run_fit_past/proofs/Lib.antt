@@ -1,2 +1,0 @@
--- A stretch of registers, its cells tested
-pub mod Laws

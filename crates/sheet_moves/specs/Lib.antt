@@ -1,4 +1,0 @@
--- One move on memory, or the number that refuses it: the machine's
-pub mod Trying
--- Memory that holds a node in progress, and what moves lead to: a later configuration, or a refusal
-pub mod NodeInMemory

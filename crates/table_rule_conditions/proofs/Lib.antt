@@ -1,2 +1,0 @@
--- The fault of a condition is the one that 01's table gives
-pub mod ConditionJudged
