@@ -16,7 +16,7 @@ use records::Answer;
 use records::State;
 
 pub mod begin;
-pub mod judge;
+pub mod judging;
 pub mod opening;
 pub mod states;
 pub mod stretch;

@@ -42,7 +42,7 @@ fn open_over(
     ensures { λ r. ⌜ ((g : Grammar) → HasProgram g (now (program .entry)) → innerLeaves r (now (registers .exit)) (now (places .exit)) (now (program .exit))
         ≡ (let m = stacksOf (now (registers .entry)) (now (places .entry)) in whenOuterFits g (stateIs outer) m (now (program .entry)) (calledInside (now (table .entry)) (now (program .entry)) (stateIs outer) closedRecord m (openedInside (stateIs outer) m)))) ⌝ }
 {
-    let number = crate::judge::judge(registers, places, program, outer);
+    let number = crate::judging::judge(registers, places, program, outer);
     if number != 0 {
         return crate::states::not_opened(outer, Answer::Refused { number, tokens: 0 });
     }

@@ -21,7 +21,7 @@ use Rattle.run_lent.specs.Judging.{when-not, not-turned}
 use Rattle.run_lent.specs.Performing.{Starts, Judged}
 use Rattle.preview.specs.token.Passing.{isStopped, letsThrough}
 use Rattle.preview.specs.collect.Collecting.{Collected}
-use Rattle.preview.specs.judge.Judging.{copyNumber, copied-on}
+use Rattle.preview.specs.judging.Judging.{copyNumber, copied-on}
 use Rattle.preview.specs.cells.Answering.{feed-answers, tidied-whole}
 use Rattle.preview.specs.May.{mayEffectIs}
 use Rattle.preview.specs.declared.May.the-variants.{Tokens}

@@ -13,7 +13,7 @@ pub mod token
 -- The set of tokens that are let through, one try after the other
 pub mod collect
 -- What turns a preview and the set back
-pub mod judge
+pub mod judging
 -- A preview on exactly the lent cells
 pub mod lent
 -- A preview on cells of any length, under a grammar whose program is at hand

@@ -23,7 +23,7 @@ pub fn preview_cells(
     ensures { λ r. ⌜ ((g : Grammar) → HasProgram g (now (program .entry)) → handedIs r (now («scratch_registers» .exit)) (now («scratch_places» .exit))
         ≡ previewOf g (stateIs brought) (stacksOf (now (registers .entry)) (now (places .entry))) (stacksOf (now («scratch_registers» .entry)) (now («scratch_places» .entry))) kind value) ⌝ }
 {
-    let number = crate::judge::judge(
+    let number = crate::judging::judge(
         registers,
         places,
         scratch_registers,

@@ -21,7 +21,7 @@ use token_set::TokenSet;
 pub mod cells;
 pub mod collect;
 pub mod expected;
-pub mod judge;
+pub mod judging;
 pub mod lent;
 pub mod scratch;
 pub mod token;
@@ -105,7 +105,7 @@ fn may_cells(
     ensures { λ r. ⌜ ((g : Grammar) → HasProgram g (now (program .entry)) → mayEffectIs r (now («scratch_registers» .exit)) (now («scratch_places» .exit)) (now (program .entry))
         ≡ mayOf g (stateIs brought) (stacksOf (now (registers .entry)) (now (places .entry))) (stacksOf (now («scratch_registers» .entry)) (now («scratch_places» .entry))) value (now (program .entry))) ⌝ }
 {
-    let number = crate::judge::judge(
+    let number = crate::judging::judge(
         registers,
         places,
         scratch_registers,

@@ -135,7 +135,7 @@ module _ {g : Grammar} {ws : List ℕ} {lent : Lent} {m : List ℤ} {ps : List �
     untested-listed : (untested .0 < length (g .productions)) × (productionAt g (untested .0) .left ≡ wanted) × T (has (starts g (productionAt g (untested .0))) (lookNumber (lookOf u)))
     untested-listed = directory-listed g (h .wellFormed) wanted (lookOf u) (untested .0) (untested .1)
 
-    pub untested-found : first ≡ found g (stack (run .registers) m) wanted (lookOf u) first
+    untested-found : first ≡ found g (stack (run .registers) m) wanted (lookOf u) first
     untested-found =
         let rs = stack (run .registers) m in
         let k = untested-listed in
@@ -146,10 +146,10 @@ module _ {g : Grammar} {ws : List ℕ} {lent : Lent} {m : List ℤ} {ps : List �
         none-hold [] e = refl
         none-hold (x ∷ xs) e = absurd (omega arith)
 
-    pub untested-scheme : directoryScheme entry ≡ getD ws (recordOf ws first + 6) 0
+    untested-scheme : directoryScheme entry ≡ getD ws (recordOf ws first + 6) 0
     untested-scheme = ap directoryScheme entry-is ∙ (untested .3 ∙ sym (ap (λ j. getD ws (recordOf ws j + 6) 0) is-untested ∙ at-scheme (h .begins) (h .wellFormed) (c .registers) (untested .0) (untested-listed .0)))
 
-    pub untested-some : first ≡ 0 → ⊥
+    untested-some : first ≡ 0 → ⊥
     untested-some e = omega (arith, is-untested, e)
 
   -- ---- the outcome

@@ -1,8 +1,9 @@
 // The predict: the place of the alternative that is entered is pushed.
 ghost use Prim.Native.Nat.{_+_, _*_, _≤_, _<_};
 ghost use mathlib.Core.Path.{_≡_};
-ghost use lib.ListN.{length, getD};
+ghost use lib.ListN.{length, getD, set};
 ghost use Rattle.meaning.specs.Limits.{productionsLimit};
+ghost use Rattle.meaning.specs.Grammar.{placeAt};
 ghost use Rattle.meaning.specs.Machine.{Coming, asLook, movesLimit};
 ghost use Rattle.meaning.specs.Program.{predictOperation};
 ghost use Rattle.theory_program.specs.Parts.{headOperand, directoryNumber};
@@ -14,6 +15,14 @@ use run_moves::Step;
 
 pub mod alternatives;
 
+// Pushes the place of a production of which no symbol is passed.
+pub fn push(places: &mut [u32], height: usize, production: usize)
+    requires { ⌜ (height < length (now places)) × (production < productionsLimit) ⌝ }
+    ensures { λ r. ⌜ now (places .exit) ≡ set (now (places .entry)) height (placeAt production 0) ⌝ }
+{
+    places[height] = program_parts::place(production, 0);
+}
+
 // The place of production p - 1 is pushed; its scheme begins at `at`.
 fn enter(places: &mut [u32], run: Run, p: usize, at: usize) -> Step
     requires { ⌜ (1 ≤ p) × (p ≤ productionsLimit) × (run .places ≤ length (now places)) × (run .moves < movesLimit) ⌝ }
@@ -23,7 +32,7 @@ fn enter(places: &mut [u32], run: Run, p: usize, at: usize) -> Step
     if height == places.len() {
         return Step::Blocked(32);
     }
-    places[height] = program_parts::place(p - 1, 0);
+    push(places, height, p - 1);
     let mut next = run_moves::counted(run, at);
     next.places = height + 1;
     Step::Moved(next)
@@ -64,7 +73,7 @@ pub fn entry_at(program: &[u32], run: Run, look: usize) -> usize
     )
 }
 
-// Pushes the place of the alternative that the directory names; where that has entry tests, of the one found.
+// Pushes the place of the first alternative whose entry tests hold, from the one on that the directory names.
 pub fn predict(
     registers: &[i64],
     places: &mut [u32],
@@ -75,17 +84,9 @@ pub fn predict(
     requires { ⌜ ReadyForMove (now program) (now registers) (now places) run predictOperation × (look < 64) ⌝ }
     ensures { λ r. ⌜ ((ahead : Coming) → asLook ahead ≡ lookOf look → Answers (now (program .entry)) (now (registers .entry)) (now (places .entry)) run ahead (now (registers .entry)) (now (places .exit)) r) × (tokensOf run r ≡ run .tokens) ⌝ }
 {
-    let entry = entry_at(program, run, look);
-    if program_parts::DIRECTORY_SCHEME <= entry {
-        return enter(
-            places,
-            run,
-            program_parts::directory_number(entry),
-            program_parts::directory_scheme(entry),
-        );
-    }
-    if entry == 0 {
+    let first = program_parts::directory_number(entry_at(program, run, look));
+    if first == 0 {
         return Step::Blocked(run_moves::unexpected(look));
     }
-    search(registers, places, program, run, look, entry)
+    search(registers, places, program, run, look, first)
 }

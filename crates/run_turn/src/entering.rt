@@ -13,14 +13,7 @@ ghost use Rattle.run_moves.specs.Moves.{passed};
 ghost use Rattle.run_turn.specs.entering.Predicting.{Predicts};
 use run_moves::Run;
 use run_moves::Step;
-
-// Pushes the place of a production of which no symbol is passed.
-fn push(places: &mut [u32], height: usize, production: usize)
-    requires { ⌜ (height < length (now places)) × (production < productionsLimit) ⌝ }
-    ensures { λ r. ⌜ now (places .exit) ≡ set (now (places .entry)) height (placeAt production 0) ⌝ }
-{
-    places[height] = program_parts::place(production, 0);
-}
+use run_predict::push;
 
 // Pushes the place of a production whose first symbol is read: it is passed now, unless a test follows at `at`.
 fn push_read(places: &mut [u32], height: usize, production: usize, program: &[u32], at: usize)

@@ -13,7 +13,7 @@ use Rattle.records.specs.Records.{stateIs}
 use lib.Seq.{length-take-le}
 use Rattle.meaning.specs.Calls.{refused}
 use Rattle.meaning_preview.specs.Preview.{turned, tokens, mayEffect, mayFollow, mayOf, tidied}
-use Rattle.preview.specs.judge.Judging.{copyNumber, copied-back}
+use Rattle.preview.specs.judging.Judging.{copyNumber, copied-back}
 use Rattle.preview.specs.cells.Answering.{scratch-long, cells-judged, cells-alike}
 use Rattle.preview.specs.Answering.{may-made}
 use borrow.Author.Needs.{needs}

@@ -20,7 +20,7 @@ use Rattle.run_cells.specs.Cutting.{uncut}
 use Rattle.run_lent.specs.Judging.{numberFor, number-cut}
 use Rattle.run_lent.specs.Performing.{Judged}
 use Rattle.run_lent.specs.Cutting.{feed-cut}
-use Rattle.preview.specs.judge.Judging.{copyNumber, copied-on, copy-passed, long-both}
+use Rattle.preview.specs.judging.Judging.{copyNumber, copied-on, copy-passed, long-both}
 use Rattle.preview.specs.lent.Answering.{LentAlike}
 
 -- ---- on cells of any length

@@ -13,17 +13,11 @@ returns c =
     let e = eq-eqb (a .run .places) (length (now (a .places))) (c .if1 .taken) in
     rw (e) (refl, refl)
 
-sub-place : tie.Need-sub-place
-sub-place c = search needs
+sub-push : tie.Need-sub-push
+sub-push c = search needs
 
-place-requires : tie.Need-place-requires
-place-requires c κs = search needs
-
-mul-places : tie.Need-mul-places
-mul-places c = search needs
-
-slice-write-places : tie.Need-slice-write-places
-slice-write-places c = search needs
+push-requires : tie.Need-push-requires
+push-requires c κs = search needs
 
 counted-requires : tie.Need-counted-requires
 counted-requires c κs = search needs
@@ -36,21 +30,19 @@ same-length c = search needs
 
 returns-2 : tie.Need-returns-2
 returns-2 c =
-    let p = c .before in
-    let k = p .before in
+    let p = c .before .before .before in
+    let k = p .before .before in
     let a = k .before .before .args in
     let e = ne-eqb (a .run .places) (length (now (a .places))) (k .if1 .left) in
-    rw (e, c .counted .ensures, p .place .ensures) (refl, refl)
+    rw (e, c .counted .ensures, p .push .ensures) (refl, refl)
 
 pub enter-spec : {M : Type 1} → statement M
 enter-spec =
     tie.close
     (tie.spec
     returns
-    sub-place
-    place-requires
-    mul-places
-    slice-write-places
+    sub-push
+    push-requires
     counted-requires
     add-next
     same-length

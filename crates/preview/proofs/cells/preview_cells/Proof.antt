@@ -13,7 +13,7 @@ use Rattle.records.specs.Records.{stateIs, handedIs}
 use lib.Seq.{length-take-le}
 use Rattle.meaning.specs.Calls.{asBrought, refused}
 use Rattle.meaning_preview.specs.Preview.{tried, previewOf}
-use Rattle.preview.specs.judge.Judging.{copyNumber, copied-back}
+use Rattle.preview.specs.judging.Judging.{copyNumber, copied-back}
 use Rattle.preview.specs.cells.Answering.{scratch-long, cells-judged, cells-alike, preview-made}
 use borrow.Author.Needs.{needs}
 use Rattle.preview.proofs.cells.preview_cells.Statement.{statement}

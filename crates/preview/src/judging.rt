@@ -4,7 +4,7 @@ ghost use Rattle.meaning.specs.Grammar.{Grammar};
 ghost use Rattle.meaning.specs.PublicCalls.{stacksOf};
 ghost use Rattle.run_fit.specs.HasProgram.{HasProgram, Readable};
 ghost use Rattle.records.specs.Records.{stateIs};
-ghost use Rattle.preview.specs.judge.Judging.{copyNumber};
+ghost use Rattle.preview.specs.judging.Judging.{copyNumber};
 use limits::UNFIT;
 use records::State;
 

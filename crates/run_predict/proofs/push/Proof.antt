@@ -1,7 +1,7 @@
 use mathlib.Core.Path.{refl}
 use borrow.Author.Needs.{needs}
-use Rattle.run_turn.proofs.entering.push.Statement.{statement}
-use Rattle.run_turn.proofs.entering.push.Tie as tie
+use Rattle.run_predict.proofs.push.Statement.{statement}
+use Rattle.run_predict.proofs.push.Tie as tie
 
 place-requires : tie.Need-place-requires
 place-requires c κs = search needs

@@ -3,10 +3,10 @@ use native.Mathlib.Omega.{arith}
 use denote.Ref.{now}
 use Rattle.meaning.specs.PublicCalls.{stacksOf}
 use Rattle.records.specs.Records.{stateIs}
-use Rattle.preview.specs.judge.Judging.{copy-turned, copy-short, copy-on, short-registers, short-places, not-short}
+use Rattle.preview.specs.judging.Judging.{copy-turned, copy-short, copy-on, short-registers, short-places, not-short}
 use borrow.Author.Needs.{needs}
-use Rattle.preview.proofs.judge.judge.Statement.{statement}
-use Rattle.preview.proofs.judge.judge.Tie as tie
+use Rattle.preview.proofs.judging.judge.Statement.{statement}
+use Rattle.preview.proofs.judging.judge.Tie as tie
 
 -- src/cells.rt:42:9
 judge-cells-requires : tie.Need-judge-cells-requires
