@@ -28,9 +28,9 @@ pub data Went (idle : Run → Type 0) (bound most : ℕ) (ws us : List ℕ) (vs 
   some : Turned bound most ws us vs i m ps run m′ ps′ (Moved run′) → Went idle bound most ws us vs i m ps run m′ ps′ run′
   none : run′ ≡ run → m′ ≡ m → ps′ ≡ ps → idle run → Went idle bound most ws us vs i m ps run m′ ps′ run′
 
-abbrev pub Passes : (Run → Type 0) → ℕ → ℕ → List ℕ → List ℕ → List ℤ → ℕ → List ℤ → List ℕ → Run → List ℤ → List ℕ → Step → Type 0
-Passes idle bound most ws us vs i m ps run m′ ps′ (Moved run′) = Went idle bound most ws us vs i m ps run m′ ps′ run′
-Passes idle bound most ws us vs i m ps run m′ ps′ (Blocked k) = Turned bound most ws us vs i m ps run m′ ps′ (Blocked k)
+abbrev pub StageLeads : (Run → Type 0) → ℕ → ℕ → List ℕ → List ℕ → List ℤ → ℕ → List ℤ → List ℕ → Run → List ℤ → List ℕ → Step → Type 0
+StageLeads idle bound most ws us vs i m ps run m′ ps′ (Moved run′) = Went idle bound most ws us vs i m ps run m′ ps′ run′
+StageLeads idle bound most ws us vs i m ps run m′ ps′ (Blocked k) = Turned bound most ws us vs i m ps run m′ ps′ (Blocked k)
 
 -- the moves end at a run, by a number
 abbrev pub Ends : ℕ → ℕ → List ℕ → List ℕ → List ℤ → ℕ → List ℤ → List ℕ → Run → List ℤ → List ℕ → Run → ℕ → Type 0
@@ -53,22 +53,22 @@ abbrev pub Other : List ℕ → ℕ → Run → Type 0
 Other ws k run = headOperation (getD ws (run .at) 0) ≡ k → ⊥
 
 -- it is an add or an evaluate
-abbrev pub Low : List ℕ → Run → Type 0
-Low ws run = headOperation (getD ws (run .at) 0) < readOperation
+abbrev pub AddOrEvaluate : List ℕ → Run → Type 0
+AddOrEvaluate ws run = headOperation (getD ws (run .at) 0) < readOperation
 
 -- the move of number k, which looks at nothing, where it is at hand
-abbrev pub Stage : List ℕ → List ℤ → Run → ℕ → List ℤ → Step → Type 0
-Stage ws m run k m′ s = (bound most : ℕ) (us : List ℕ) (vs : List ℤ) (i : ℕ) (ps : List ℕ) → length us ≡ length vs → Passes (Other ws k) bound most ws us vs i m ps run m′ ps s
+abbrev pub MadeAtHand : List ℕ → List ℤ → Run → ℕ → List ℤ → Step → Type 0
+MadeAtHand ws m run k m′ s = (bound most : ℕ) (us : List ℕ) (vs : List ℤ) (i : ℕ) (ps : List ℕ) → length us ≡ length vs → StageLeads (Other ws k) bound most ws us vs i m ps run m′ ps s
 
 -- the add and the evaluate
-abbrev pub Prepared : List ℕ → List ℤ → Run → List ℤ → Onward → Type 0
-Prepared ws m run m′ t = (bound most : ℕ) (us : List ℕ) (vs : List ℤ) (i : ℕ) (ps : List ℕ) → length us ≡ length vs → Ran (λ r. Other ws addOperation r × Other ws evaluateOperation r) bound most ws us vs i m ps run m′ ps t
+abbrev pub BothAtHand : List ℕ → List ℤ → Run → List ℤ → Onward → Type 0
+BothAtHand ws m run m′ t = (bound most : ℕ) (us : List ℕ) (vs : List ℤ) (i : ℕ) (ps : List ℕ) → length us ≡ length vs → Ran (λ r. Other ws addOperation r × Other ws evaluateOperation r) bound most ws us vs i m ps run m′ ps t
 
 -- ---- one stage after the other
 
-pub passes-turned : (idle : Run → Type 0) (bound most : ℕ) (ws us : List ℕ) (vs : List ℤ) (i : ℕ) (m : List ℤ) (ps : List ℕ) (run : Run) (m′ : List ℤ) (ps′ : List ℕ) (s : Step) → Turned bound most ws us vs i m ps run m′ ps′ s → Passes idle bound most ws us vs i m ps run m′ ps′ s
-passes-turned idle bound most ws us vs i m ps run m′ ps′ (Moved run′) t = some t
-passes-turned idle bound most ws us vs i m ps run m′ ps′ (Blocked k) t = t
+pub stage-turned : (idle : Run → Type 0) (bound most : ℕ) (ws us : List ℕ) (vs : List ℤ) (i : ℕ) (m : List ℤ) (ps : List ℕ) (run : Run) (m′ : List ℤ) (ps′ : List ℕ) (s : Step) → Turned bound most ws us vs i m ps run m′ ps′ s → StageLeads idle bound most ws us vs i m ps run m′ ps′ s
+stage-turned idle bound most ws us vs i m ps run m′ ps′ (Moved run′) t = some t
+stage-turned idle bound most ws us vs i m ps run m′ ps′ (Blocked k) t = t
 
 module _ {idle : Run → Type 0} {bound most : ℕ} {ws us : List ℕ} {vs : List ℤ} {i : ℕ} {m : List ℤ} {ps : List ℕ} {run : Run} {m′ : List ℤ} {ps′ : List ℕ} {run′ : Run} where
   went-reaches : Went idle bound most ws us vs i m ps run m′ ps′ run′ → Reaches bound most ws us vs i m ps run m′ ps′ run′
@@ -106,7 +106,7 @@ module _ {I : Run → Type 0} {bound most : ℕ} {ws us : List ℕ} {vs : List �
 
 -- some stage makes a move
 pub went-turns : {bound most : ℕ} {ws us : List ℕ} {vs : List ℤ} {i : ℕ} {m : List ℤ} {ps : List ℕ} {run : Run} {m′ : List ℤ} {ps′ : List ℕ} {run′ : Run}
-    → Went (λ r. (Other ws addOperation r × Other ws evaluateOperation r) × Low ws r) bound most ws us vs i m ps run m′ ps′ run′ → Turned bound most ws us vs i m ps run m′ ps′ (Moved run′)
+    → Went (λ r. (Other ws addOperation r × Other ws evaluateOperation r) × AddOrEvaluate ws r) bound most ws us vs i m ps run m′ ps′ run′ → Turned bound most ws us vs i m ps run m′ ps′ (Moved run′)
 went-turns (some t) = t
 went-turns {ws = ws} {run = run} (none z x y p) = absurd (below (headOperation (getD ws (run .at) 0)) (p .0 .0) (p .0 .1) (p .1))
   where

@@ -12,7 +12,7 @@ ghost use Rattle.run_moves.specs.Returns.{Returns};
 ghost use Rattle.run_turn.specs.entering.Predicting.{Predicts};
 ghost use Rattle.run_next_token.specs.Operations.{Running};
 ghost use Rattle.run_next_token.specs.Turns.{Fed, Turned};
-ghost use Rattle.run_turn.specs.Stages.{Passes, Low, Stage, Prepared, TurnsOn};
+ghost use Rattle.run_turn.specs.Stages.{StageLeads, AddOrEvaluate, MadeAtHand, BothAtHand, TurnsOn};
 use limits::MOVES_LIMIT;
 use run_looking::Limits;
 use run_moves::Run;
@@ -36,7 +36,7 @@ pub enum Onward {
 // The add, where it is at hand.
 fn add_if_at_hand(registers: &[i64], program: &[u32], run: Run) -> Step
     requires { ⌜ ((ps : List ℕ) × Running (now program) (now registers) ps run) ⌝ }
-    ensures { λ r. ⌜ Stage (now (program .entry)) (now (registers .entry)) run addOperation (now (registers .entry)) r ⌝ }
+    ensures { λ r. ⌜ MadeAtHand (now (program .entry)) (now (registers .entry)) run addOperation (now (registers .entry)) r ⌝ }
 {
     if program_parts::operation(run_moves::word_at(program, run.at)) != operations::ADD {
         return Step::Moved(run);
@@ -50,7 +50,7 @@ fn add_if_at_hand(registers: &[i64], program: &[u32], run: Run) -> Step
 // The evaluate, where it is at hand.
 fn evaluate_if_at_hand(registers: &mut [i64], program: &[u32], run: Run) -> Step
     requires { ⌜ ((ps : List ℕ) × Running (now program) (now registers) ps run) ⌝ }
-    ensures { λ r. ⌜ Stage (now (program .entry)) (now (registers .entry)) run evaluateOperation (now (registers .exit)) r ⌝ }
+    ensures { λ r. ⌜ MadeAtHand (now (program .entry)) (now (registers .entry)) run evaluateOperation (now (registers .exit)) r ⌝ }
 {
     if program_parts::operation(run_moves::word_at(program, run.at)) != operations::EVALUATE {
         return Step::Moved(run);
@@ -64,7 +64,7 @@ fn evaluate_if_at_hand(registers: &mut [i64], program: &[u32], run: Run) -> Step
 // The add and the evaluate, where they are at hand, one after the other.
 fn add_and_evaluate(registers: &mut [i64], program: &[u32], run: Run) -> Onward
     requires { ⌜ ((ps : List ℕ) × Running (now program) (now registers) ps run) ⌝ }
-    ensures { λ r. ⌜ Prepared (now (program .entry)) (now (registers .entry)) run (now (registers .exit)) r ⌝ }
+    ensures { λ r. ⌜ BothAtHand (now (program .entry)) (now (registers .entry)) run (now (registers .exit)) r ⌝ }
 {
     match add_if_at_hand(registers, program, run) {
         Step::Blocked(n) => Onward::Over(run, n),
@@ -153,7 +153,7 @@ fn make_other_move(
     limits: Limits,
 ) -> Step
     requires { ⌜ Fed (limits .bound) (now program) (now registers) (now places) run (now kinds) (now values) × (limits .from ≤ run .tokens) × Returns (now program) (now returns) ⌝ }
-    ensures { λ r. ⌜ Passes (Low (now (program .entry))) (limits .bound) (limits .most) (now (program .entry)) (now (kinds .entry)) (now (values .entry)) (run .tokens - limits .from) (now (registers .entry)) (now (places .entry)) run (now (registers .exit)) (now (places .exit)) r
+    ensures { λ r. ⌜ StageLeads (AddOrEvaluate (now (program .entry))) (limits .bound) (limits .most) (now (program .entry)) (now (kinds .entry)) (now (values .entry)) (run .tokens - limits .from) (now (registers .entry)) (now (places .entry)) run (now (registers .exit)) (now (places .exit)) r
         × Returns (now (program .entry)) (now (returns .exit)) ⌝ }
 {
     let operation = program_parts::operation(run_moves::word_at(program, run.at));

@@ -9,7 +9,7 @@ use Rattle.meaning.specs.Program.{addOperation, evaluateOperation}
 use Rattle.run_moves.specs.declared.Run.{Run}
 use Rattle.run_moves.specs.declared.Step.{Step}
 use Rattle.run_moves.specs.declared.Step.the-variants.{Moved, Blocked}
-use Rattle.run_turn.specs.Stages.{Stage, any-taken, went-after, went-went, went-ends}
+use Rattle.run_turn.specs.Stages.{MadeAtHand, any-taken, went-after, went-went, went-ends}
 use Rattle.run_turn.proofs.add_and_evaluate.Statement.{statement}
 use Rattle.run_turn.proofs.add_and_evaluate.Tie as tie
 
@@ -17,8 +17,8 @@ abbrev start : tie.After-add-if-at-hand → tie.Start
 start c = c .before .before .before
 
 -- what the add leads to
-added : (c : tie.After-add-if-at-hand) (t : Step) → c .add-if-at-hand .result ≡ t → (let a = start c .args in Stage (now (a .program)) (now (a .registers)) (a .run) addOperation (now (a .registers)) t)
-added c t e = let a = start c .args in subst (Stage (now (a .program)) (now (a .registers)) (a .run) addOperation (now (a .registers))) e (c .add-if-at-hand .ensures)
+added : (c : tie.After-add-if-at-hand) (t : Step) → c .add-if-at-hand .result ≡ t → (let a = start c .args in MadeAtHand (now (a .program)) (now (a .registers)) (a .run) addOperation (now (a .registers)) t)
+added c t e = let a = start c .args in subst (MadeAtHand (now (a .program)) (now (a .registers)) (a .run) addOperation (now (a .registers))) e (c .add-if-at-hand .ensures)
 
 abbrev adds-of : tie.After-evaluate-if-at-hand → tie.After-add-if-at-hand
 adds-of c = c .before .before .before .before .before
@@ -28,8 +28,8 @@ abbrev next-of : tie.After-evaluate-if-at-hand → Run
 next-of c = c .before .before .before .next .given .0 .0
 
 -- and the evaluate
-evaluated : (c : tie.After-evaluate-if-at-hand) (t : Step) → c .evaluate-if-at-hand .result ≡ t → (let a = start (adds-of c) .args in Stage (now (a .program)) (now (a .registers)) (next-of c) evaluateOperation (c .evaluate-if-at-hand .last .0) t)
-evaluated c t e = let a = start (adds-of c) .args in subst (Stage (now (a .program)) (now (a .registers)) (next-of c) evaluateOperation (c .evaluate-if-at-hand .last .0)) e (c .evaluate-if-at-hand .ensures)
+evaluated : (c : tie.After-evaluate-if-at-hand) (t : Step) → c .evaluate-if-at-hand .result ≡ t → (let a = start (adds-of c) .args in MadeAtHand (now (a .program)) (now (a .registers)) (next-of c) evaluateOperation (c .evaluate-if-at-hand .last .0) t)
+evaluated c t e = let a = start (adds-of c) .args in subst (MadeAtHand (now (a .program)) (now (a .registers)) (next-of c) evaluateOperation (c .evaluate-if-at-hand .last .0)) e (c .evaluate-if-at-hand .ensures)
 
 add-if-at-hand-requires : tie.Need-add-if-at-hand-requires
 add-if-at-hand-requires c κs = c .before .before .pre

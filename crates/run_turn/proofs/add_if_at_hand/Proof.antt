@@ -12,7 +12,7 @@ use Rattle.run_moves.specs.declared.Step.the-variants.{Blocked}
 use Rattle.run_moves.specs.Held.{bounds}
 use Rattle.run_next_token.specs.Operations.{limit-answers}
 use Rattle.run_next_token.specs.Turns.{turned-quiet}
-use Rattle.run_turn.specs.Stages.{Other, none, passes-turned}
+use Rattle.run_turn.specs.Stages.{Other, none, stage-turned}
 use Rattle.run_turn.proofs.add_if_at_hand.Statement.{statement}
 use Rattle.run_turn.proofs.add_if_at_hand.Tie as tie
 
@@ -58,7 +58,7 @@ returns-3 c = λ bound most us vs i ps even.
     let e = c .before .before .before in
     let a = start (e .before) .args in
     let m = now (a .registers) in
-    passes-turned (Other (now (a .program)) addOperation) bound most (now (a .program)) us vs i m ps (a .run) m ps (c .add .result)
+    stage-turned (Other (now (a .program)) addOperation) bound most (now (a .program)) us vs i m ps (a .run) m ps (c .add .result)
     (turned-quiet bound most (now (a .program)) us vs m ps (a .run) i even m ps (c .add .result) (quiet e) (c .add .ensures ps ends))
 
 pub add-if-at-hand-spec : {M : Type 1} → statement M

@@ -12,7 +12,7 @@ use Rattle.run_moves.specs.declared.Step.the-variants.{Blocked}
 use Rattle.run_moves.specs.Held.{bounds}
 use Rattle.run_next_token.specs.Operations.{limit-answers}
 use Rattle.run_next_token.specs.Turns.{turned-quiet}
-use Rattle.run_turn.specs.Stages.{Other, none, passes-turned}
+use Rattle.run_turn.specs.Stages.{Other, none, stage-turned}
 use Rattle.run_turn.proofs.evaluate_if_at_hand.Statement.{statement}
 use Rattle.run_turn.proofs.evaluate_if_at_hand.Tie as tie
 
@@ -62,7 +62,7 @@ returns-3 c = λ bound most us vs i ps even.
     let e = v .before .before .before .before in
     let a = start (e .before) .args in
     let m = now (a .registers) in
-    passes-turned (Other (now (a .program)) evaluateOperation) bound most (now (a .program)) us vs i m ps (a .run) (v .evaluate .last .0) ps (v .evaluate .result)
+    stage-turned (Other (now (a .program)) evaluateOperation) bound most (now (a .program)) us vs i m ps (a .run) (v .evaluate .last .0) ps (v .evaluate .result)
     (turned-quiet bound most (now (a .program)) us vs m ps (a .run) i even (v .evaluate .last .0) ps (v .evaluate .result) (quiet e) (v .evaluate .ensures ps ends))
 
 pub evaluate-if-at-hand-spec : {M : Type 1} → statement M

@@ -15,7 +15,7 @@ use Rattle.run_moves.specs.Held.{ReadyForMove, Answers, bounds}
 use Rattle.run_looking.specs.Judging.{looksAhead}
 use Rattle.run_next_token.specs.Operations.{number-most}
 use Rattle.run_next_token.specs.Turns.{Turned, turned-quiet}
-use Rattle.run_turn.specs.Stages.{Passes, Low, none, passes-turned}
+use Rattle.run_turn.specs.Stages.{StageLeads, AddOrEvaluate, none, stage-turned}
 use Rattle.run_turn.proofs.make_other_move.Statement.{statement}
 use Rattle.run_turn.proofs.make_other_move.Tie as tie
 
@@ -51,14 +51,14 @@ abbrev Passed : tie.Start → List ℤ → List ℕ → Step → Type 0
 Passed s m ps t =
     let a = s .args in
     let l = a .limits in
-    Passes (Low (now (a .program))) (l .bound) (l .most) (now (a .program)) (now (a .kinds)) (now (a .values)) (a .run .tokens - l .from) (now (a .registers)) (now (a .places)) (a .run) m ps t
+    StageLeads (AddOrEvaluate (now (a .program))) (l .bound) (l .most) (now (a .program)) (now (a .kinds)) (now (a .values)) (a .run .tokens - l .from) (now (a .registers)) (now (a .places)) (a .run) m ps t
 
 passed : (s : tie.Start) (m : List ℤ) (ps : List ℕ) (t : Step)
     → (let a = s .args in let l = a .limits in Turned (l .bound) (l .most) (now (a .program)) (now (a .kinds)) (now (a .values)) (a .run .tokens - l .from) (now (a .registers)) (now (a .places)) (a .run) m ps t) → Passed s m ps t
 passed s m ps t k =
     let a = s .args in
     let l = a .limits in
-    passes-turned (Low (now (a .program))) (l .bound) (l .most) (now (a .program)) (now (a .kinds)) (now (a .values)) (a .run .tokens - l .from) (now (a .registers)) (now (a .places)) (a .run) m ps t k
+    stage-turned (AddOrEvaluate (now (a .program))) (l .bound) (l .most) (now (a .program)) (now (a .kinds)) (now (a .values)) (a .run .tokens - l .from) (now (a .registers)) (now (a .places)) (a .run) m ps t k
 
 -- nothing is left
 nothing : (c : tie.Else6) → c .before .before .before .before .before .before .before .operation .result ≡ nothingOperation

@@ -12,7 +12,7 @@ use Rattle.run_moves.specs.declared.Step.the-variants.{Moved, Blocked}
 use Rattle.run_next_token.specs.Operations.{Running}
 use Rattle.run_turn.specs.declared.Onward.{Onward}
 use Rattle.run_turn.specs.declared.Onward.the-variants.{Going, Over}
-use Rattle.run_turn.specs.Stages.{Passes, Low, Prepared, any-taken, went-after, went-went, went-ends, went-turns}
+use Rattle.run_turn.specs.Stages.{StageLeads, AddOrEvaluate, BothAtHand, any-taken, went-after, went-went, went-ends, went-turns}
 use Rattle.run_turn.proofs.turn.Statement.{statement}
 use Rattle.run_turn.proofs.turn.Tie as tie
 
@@ -20,8 +20,8 @@ abbrev start : tie.After-add-and-evaluate → tie.Start
 start c = c .before .before .before .before .before .before
 
 -- what the add and the evaluate lead to
-prepared : (c : tie.After-add-and-evaluate) (t : Onward) → c .add-and-evaluate .result ≡ t → (let a = start c .args in Prepared (now (a .program)) (now (a .registers)) (a .run) (c .add-and-evaluate .last .0) t)
-prepared c t e = let a = start c .args in subst (Prepared (now (a .program)) (now (a .registers)) (a .run) (c .add-and-evaluate .last .0)) e (c .add-and-evaluate .ensures)
+prepared : (c : tie.After-add-and-evaluate) (t : Onward) → c .add-and-evaluate .result ≡ t → (let a = start c .args in BothAtHand (now (a .program)) (now (a .registers)) (a .run) (c .add-and-evaluate .last .0) t)
+prepared c t e = let a = start c .args in subst (BothAtHand (now (a .program)) (now (a .registers)) (a .run) (c .add-and-evaluate .last .0)) e (c .add-and-evaluate .ensures)
 
 -- what is counted then, and that a configuration is held
 counted : (c : tie.After-add-and-evaluate) (next : Run) → c .add-and-evaluate .result ≡ Going next → (let a = start c .args in (a .run .tokens ≤ next .tokens) × Running (now (a .program)) (c .add-and-evaluate .last .0) (now (a .places)) next)
@@ -42,7 +42,7 @@ Passed c t =
     let r = prepared-of c in
     let a = start r .args in
     let l = a .limits in
-    Passes (Low (now (a .program))) (l .bound) (l .most) (now (a .program)) (now (a .kinds)) (now (a .values)) (next-of c .tokens - l .from) (r .add-and-evaluate .last .0) (now (a .places)) (next-of c) (c .make-other-move .last .0) (c .make-other-move .last .1 .0) t
+    StageLeads (AddOrEvaluate (now (a .program))) (l .bound) (l .most) (now (a .program)) (now (a .kinds)) (now (a .values)) (next-of c .tokens - l .from) (r .add-and-evaluate .last .0) (now (a .places)) (next-of c) (c .make-other-move .last .0) (c .make-other-move .last .1 .0) t
 
 passed : (c : tie.After-make-other-move) (t : Step) → c .make-other-move .result ≡ t → Passed c t
 passed c t e = subst (Passed c) e (c .make-other-move .ensures .0)
