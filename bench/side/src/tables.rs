@@ -72,12 +72,17 @@ fn handing_on(t: &mut Vec<u8>, left: u8, children: u8, n: u8) {
 
 /// The same tokens, of so many kinds in no order.
 pub fn tree_of_kinds(widths: &[u8], kinds: u8) -> Vec<u8> {
+    in_no_order(tree_segment(widths).len(), kinds)
+}
+
+/// So many tokens, of so many kinds in no order.
+pub fn in_no_order(tokens: usize, kinds: u8) -> Vec<u8> {
     let mut state = 1u32;
     let mut kind = || {
         state = state.wrapping_mul(1_664_525).wrapping_add(1_013_904_223);
         ((state >> 16) % kinds as u32) as u8
     };
-    tree_segment(widths).iter().map(|_| kind()).collect()
+    (0..tokens).map(|_| kind()).collect()
 }
 
 /// A wide tree of words of so many kinds: each word is a nonterminal that adds 1 to what it is handed, with an alternative for each kind.
@@ -90,6 +95,21 @@ fn wide_by(widths: &[u8], terminals: u8, kinds: u8) -> Vec<u8> {
     for kind in 0..kinds {
         field(&mut t, 3, &[levels + 1, 1, kind]);
         field(&mut t, 4, &[0, 2, 7, 0, 1, 0, 0, 0, 1]);
+    }
+    t
+}
+
+/// Words of so many kinds, each of which goes on to a nonterminal of its own: a regular grammar, one nonterminal for each state.
+pub fn states(kinds: u8) -> Vec<u8> {
+    let mut t = headed(kinds, kinds, &[0], 1);
+    for left in 1..=kinds {
+        for kind in 0..kinds {
+            field(&mut t, 3, &[left, 2, kind, 129 + kind]);
+            copy(&mut t, (2, 1), (0, 1));
+            field(&mut t, 4, &[0, 2, 7, 2, 2, 0, 0, 0, 1]);
+        }
+        field(&mut t, 3, &[left, 0]);
+        constant(&mut t, (0, 2), 0);
     }
     t
 }

@@ -66,6 +66,8 @@ fn feeds() -> Vec<Workload> {
         feed("words in a wide tree", tables::wide(&tables::WIDTHS), tree.clone(), SMALL),
         mixed("words of 2 kinds in no order, wide tree", 2),
         mixed("words of 16 kinds in no order, wide tree", 16),
+        feed("words of 2 kinds in no order, a state for each", tables::states(2), tables::in_no_order(1021, 2), CAPS),
+        feed("words of 8 kinds in no order, a state for each", tables::states(8), tables::in_no_order(1021, 8), CAPS),
         feed("reads in a wide tree", tables::reads(&tables::WIDTHS), tree.clone(), SMALL),
         feed("brackets 1,020 deep", samples::brackets(), samples::brackets_segment(1020), CAPS),
         feed("brackets 510 deep, 4 + 4 attributes", tables::brackets_of_eight(), samples::brackets_segment(510), CAPS),

@@ -17,14 +17,16 @@ use Rattle.meaning.specs.Value.{inRange, mark}
 use Rattle.meaning.specs.Machine.{readRegister, writeAll}
 use Rattle.meaning.specs.Calls.{lay, isMark}
 use Rattle.theory_base.specs.Agree.{apply-agree}
-use Rattle.theory_program.specs.Parts.{ruleTarget}
+use Rattle.theory_base.specs.Members.{T→true}
+use Rattle.theory_program.specs.Parts.{ruleTarget, ruleFunction, ruleFirst}
 use Rattle.value.specs.Ranged.{ranged, ranged-in}
 use Rattle.value.specs.Overflow.{isMark-ranged}
 use Rattle.run_registers.specs.Stack.{stack, stack-length, stack-laid, stack-write, lay-write, lay-over}
 use Rattle.run_registers.specs.Read.{ruleHere, rulesFrom, ruleValue, valuesFit, Valued, Evaluates, Evaluated}
-use Rattle.run_registers.specs.Operand.{Applies}
+use Rattle.run_registers.specs.Operand.{Applies, is-copy}
 use Rattle.run_registers.proofs.Loops.{rules-turn, rules-end, evaluates-turn, target-turn, applies-turn}
 use Rattle.run_register_rules.specs.Remarked.{remarked, TargetsMarked, remarked-same, remarked-written}
+use Rattle.run_register_rules.specs.Straight.{Straight}
 
 operands-map : {P Q : ℕ → Type 0} → ((k : ℕ) → P k → Q k) → (f : Function ℕ) → Operands P f → Operands Q f
 operands-map h (const c) o = tt
@@ -89,18 +91,11 @@ module _ {ws : List ℕ} {at n h : ℕ} {m₀ rs : List ℤ} (low : h ≤ length
     pub remarking-end : n ≤ i → m ≡ lay h mark (remarked (rulesFrom ws at n) (stack h m₀)) m₀
     remarking-end l = sym (ap (λ z. lay h mark z m₀) (w .marked ∙ ap (λ qs. remarked qs (stack h m)) (rules-end ws p n i l)) ∙ w .laid)
 
--- ---- evaluating: the values of i of n rules are written into m, which was m₀
+-- ---- evaluating
 
-pub record Straight (ws : List ℕ) (at n h : ℕ) (m₀ : List ℤ) (i p : ℕ) (m : List ℤ) : Type 0 where
-  pub left : Evaluates ws p (n - i) (stack h m₀)
-  pub members : (q : Rule ℕ) → In q (rulesFrom ws p (n - i)) → In q (rulesFrom ws at n)
-  pub answer : valuesFit (rulesFrom ws at n) (stack h m₀) ≡ valuesFit (rulesFrom ws p (n - i)) (stack h m₀)
-  -- what held a value holds it still
-  pub agree : (k : ℕ) → Valued (stack h m₀) k → readRegister (stack h m) k ≡ readRegister (stack h m₀) k
-  pub restored : remarked (rulesFrom ws at n) (stack h m) ≡ stack h m₀
-  pub sameLength : length m ≡ length m₀
-  pub laid : lay h mark (stack h m) m₀ ≡ m
-  pub written : writeAll (rulesFrom ws at n) (stack h m₀) (stack h m₀) ≡ writeAll (rulesFrom ws p (n - i)) (stack h m₀) (stack h m)
+-- the targets of n rules marked in m
+abbrev pub origin : List ℕ → ℕ → ℕ → ℕ → List ℤ → List ℤ
+origin ws at n h m = lay h mark (remarked (rulesFrom ws at n) (stack h m)) m
 
 module _ (ws : List ℕ) (at n h : ℕ) (m₀ : List ℤ) (low : h ≤ length m₀) (fresh : TargetsMarked (rulesFrom ws at n) (stack h m₀)) where
   abbrev rs : List ℤ
@@ -191,6 +186,21 @@ module _ (ws : List ℕ) (at n h : ℕ) (m₀ : List ℤ) (low : h ≤ length m�
               answer = sym (answer-here ∙ ap (λ b. b && valuesFit (rulesFrom ws (p + 2) (n - (i + 1))) rs) fails);
               memory = k ∙ (ap (λ z. lay h mark z m) (w .restored) ∙ laid-anew h m₀ m rs inside-now (w .laid) (stack-length h m₀ low));
             }
+
+      -- the rule at hand is a copy
+      pub straight-copy : ruleFunction (getD ws p 0) ≡ 1 → Valued (stack h m) (ruleFirst (getD ws p 0)) × ((v : ℤ) → v ≡ readRegister (stack h m) (ruleFirst (getD ws p 0)) → Straight ws at n h m₀ (i + 1) (p + 2) (set m (h - ruleTarget (getD ws p 0)) v))
+      straight-copy f =
+          let k = is-copy straight-applies f in
+          let fits : inRange (readRegister (stack h m) (ruleFirst (getD ws p 0))) ≡ true = T→true _ (k .0 .2) in (
+            k .0,
+            λ v e.
+                let is : v ≡ ranged (ruleValue (stack h m) here) = e ∙ (sym (ranged-in _ fits) ∙ ap ranged (sym (k .1))) in
+                straight-turn v is (marked v is ∙ ap not (ap inRange (sym same-value ∙ k .1) ∙ fits)),
+          )
+
+    -- what stood before, by what stands now
+    pub straight-origin : origin ws at n h m ≡ m₀
+    straight-origin = ap (λ z. lay h mark z m) (w .restored) ∙ (laid-anew h m₀ m rs inside-now (w .laid) (stack-length h m₀ low) ∙ stack-laid mark h m₀ low)
 
     pub straight-end : n ≤ i → Evaluated (rulesFrom ws at n) h m₀ true m
     straight-end l =

@@ -2,3 +2,5 @@
 pub mod Common
 -- The targets of rules, marked again
 pub mod Remarked
+-- Rules evaluated straight into their registers: what stands when some of them are
+pub mod Straight

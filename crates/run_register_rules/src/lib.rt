@@ -1,5 +1,5 @@
 // Conditions tested and rules evaluated on the register stack, by the program's words.
-ghost use Prim.Native.Nat.{_≤_, _<_};
+ghost use Prim.Native.Nat.{_+_, _*_, _≤_, _<_};
 ghost use mathlib.Core.Path.{_≡_};
 ghost use mathlib.Core.Bool.{true};
 ghost use mathlib.Core.List.{List};
@@ -18,6 +18,7 @@ ghost use Rattle.run_registers.specs.Read.{Valued, Tests, conditionsFrom, rules
 ghost use Rattle.run_registers.specs.Operand.{Fetched, operandOf, Applies};
 ghost use Rattle.run_register_rules.specs.Common.{common};
 ghost use Rattle.run_register_rules.specs.Remarked.{remarked, TargetsMarked};
+ghost use Rattle.run_register_rules.specs.Straight.{Straight};
 
 // ---- test
 
@@ -169,6 +170,33 @@ fn mark_again(registers: &mut [i64], height: usize, program: &[u32], at: usize, 
     }
 }
 
+// The copies among `count` rules, whose words stand from `at` on, up to the first that is none: a value is copied without a look at it. How many they are.
+fn copy_first(
+    registers: &mut [i64],
+    height: usize,
+    program: &[u32],
+    at: usize,
+    count: usize,
+) -> usize
+    requires { ⌜ (height ≤ length (now registers)) × Evaluates (now program) at count (stack height (now registers)) × TargetsMarked (rulesFrom (now program) at count) (stack height (now registers)) ⌝ }
+    ensures { λ r. ⌜ (r ≤ count) × Straight (now (program .entry)) at count height (now (registers .entry)) r (at + 2 * r) (now (registers .exit)) ⌝ }
+{
+    let mut i = 0;
+    let mut p = at;
+    while i < count {
+        let word = program[p];
+        if program_parts::rule_function(word) != 1 {
+            return i;
+        }
+        let target = program_parts::rule_target(word) as usize;
+        let v = run_registers::read(registers, height, program_parts::rule_first(word));
+        registers[height - target] = v;
+        i += 1;
+        p += program_parts::RULE_WORDS;
+    }
+    i
+}
+
 // Evaluates `count` rules, whose words stand from `at` on. 01: "all or none". A value is written at once: targets stand marked, so no rule reads one.
 pub fn evaluate(
     registers: &mut [i64],
@@ -180,8 +208,9 @@ pub fn evaluate(
     requires { ⌜ (height ≤ length (now registers)) × Evaluates (now program) at count (stack height (now registers)) × TargetsMarked (rulesFrom (now program) at count) (stack height (now registers)) ⌝ }
     ensures { λ r. ⌜ Evaluated (rulesFrom (now (program .entry)) at count) height (now (registers .entry)) r (now (registers .exit)) ⌝ }
 {
-    let mut i = 0;
-    let mut p = at;
+    let copied = copy_first(registers, height, program, at, count);
+    let mut i = copied;
+    let mut p = at + program_parts::RULE_WORDS * copied;
     while i < count {
         let word = program[p];
         let constant = program[p + 1];
