@@ -122,6 +122,10 @@ module _ (ws : List ℕ) (at n h : ℕ) (m₀ : List ℤ) (low : h ≤ length m�
     valued-now : (k : ℕ) → Valued rs k → Valued (stack h m) k
     valued-now k v = (v .0, omega (arith, v .1, stack-length h m₀ low, stack-length h m inside-now), subst (λ z. T (inRange z)) (sym (w .agree k v)) (v .2))
 
+    -- with all targets marked the stack is the one before
+    laid-before : origin ws at n h m ≡ lay h mark rs m₀
+    laid-before = ap (λ z. lay h mark z m) (w .restored) ∙ laid-anew h m₀ m rs inside-now (w .laid) (stack-length h m₀ low)
+
     module _ (l : i < n) where
       abbrev here : Rule ℕ
       here = ruleHere ws p
@@ -184,7 +188,7 @@ module _ (ws : List ℕ) (at n h : ℕ) (m₀ : List ℤ) (low : h ≤ length m�
             let fails : inRange (ruleValue rs here) ≡ false = not-true _ (sym marked ∙ f) in
             record {
               answer = sym (answer-here ∙ ap (λ b. b && valuesFit (rulesFrom ws (p + 2) (n - (i + 1))) rs) fails);
-              memory = k ∙ (ap (λ z. lay h mark z m) (w .restored) ∙ laid-anew h m₀ m rs inside-now (w .laid) (stack-length h m₀ low));
+              memory = k ∙ laid-before;
             }
 
       -- the rule at hand is a copy
@@ -200,7 +204,7 @@ module _ (ws : List ℕ) (at n h : ℕ) (m₀ : List ℤ) (low : h ≤ length m�
 
     -- what stood before, by what stands now
     pub straight-origin : origin ws at n h m ≡ m₀
-    straight-origin = ap (λ z. lay h mark z m) (w .restored) ∙ (laid-anew h m₀ m rs inside-now (w .laid) (stack-length h m₀ low) ∙ stack-laid mark h m₀ low)
+    straight-origin = laid-before ∙ stack-laid mark h m₀ low
 
     pub straight-end : n ≤ i → Evaluated (rulesFrom ws at n) h m₀ true m
     straight-end l =

@@ -59,6 +59,13 @@ target c =
 same : (c : tie.In-loop Inv-loop μ-loop) → length (c .before .loop .registers) ≡ length (now (start c .args .registers))
 same c = c .before .loop .inv .2 .sameLength
 
+-- what the copies made so far leave
+so-far : (c : tie.At-loop Inv-loop μ-loop) → (let a = c .before .before .args in let l = c .loop in (l .i ≤ a .count) × Straight (now (a .program)) (a .at) (a .count) (a .height) (now (a .registers)) (l .i) (a .at + 2 * l .i) (l .registers))
+so-far c =
+    let a = c .before .before .args in
+    let l = c .loop in
+    (l .inv .0, subst (λ q. Straight (now (a .program)) (a .at) (a .count) (a .height) (now (a .registers)) (l .i) q (l .registers)) (l .inv .1) (l .inv .2))
+
 loop-holds : tie.Need-loop-holds Inv-loop μ-loop
 loop-holds c =
     let s = c .before in
@@ -78,11 +85,7 @@ same-length : tie.Need-same-length Inv-loop μ-loop
 same-length c = same (c .before .before .before)
 
 returns : tie.Need-returns Inv-loop μ-loop
-returns c =
-    let t = c .before .before .before in
-    let l = t .before .loop in
-    let a = start t .args in
-    (l .inv .0, subst (λ q. Straight (now (a .program)) (a .at) (a .count) (a .height) (now (a .registers)) (l .i) q (l .registers)) (l .inv .1) (l .inv .2))
+returns c = so-far (c .before .before .before .before)
 
 rule-target-requires : tie.Need-rule-target-requires Inv-loop μ-loop
 rule-target-requires c κs = search needs
@@ -140,10 +143,7 @@ same-length-2 : tie.Need-same-length-2 Inv-loop μ-loop
 same-length-2 c = c .before .loop .inv .2 .sameLength
 
 returns-2 : tie.Need-returns-2 Inv-loop μ-loop
-returns-2 c =
-    let l = c .before .loop in
-    let a = c .before .before .before .args in
-    (l .inv .0, subst (λ q. Straight (now (a .program)) (a .at) (a .count) (a .height) (now (a .registers)) (l .i) q (l .registers)) (l .inv .1) (l .inv .2))
+returns-2 c = so-far (c .before)
 
 pub copy-first-spec : {M : Type 1} → statement M
 copy-first-spec =
