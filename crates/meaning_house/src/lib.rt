@@ -1,1 +1,2 @@
 // 02 (a): house order for tables: the definitions and the statements; no code.
+#![tactic(auto)]

@@ -1,1 +1,2 @@
 // 02 (h): inner runs: the definitions; no code.
+#![tactic(auto)]

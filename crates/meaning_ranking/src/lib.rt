@@ -1,1 +1,2 @@
 // The definitions and statements of ranked suggestions; no code.
+#![tactic(auto)]

@@ -1,1 +1,2 @@
 // More computed rows of the definitions and statements; no code.
+#![tactic(auto)]

@@ -1,1 +1,2 @@
 // 02 (i): tree sheets: the definitions; no code.
+#![tactic(auto)]

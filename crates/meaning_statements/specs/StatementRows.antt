@@ -75,10 +75,6 @@ not_by c t j k o w b many unknown other r s ws x = by x.says.1 (stuck words lent
     by (at_end l d f h) e = absurd (omega (arith, ap length (sym (ap (λ z. z ++ []) l) ∙ e.1)))
     by (between v y h) e = absurd (subst T (sym w ∙ (sym (ap (λ d. waits d.frames) e.2) ∙ v)) tt)
 
--- token 3 of 0 to 2, where the move is blocked by 21, is not refused by 22
-not_22 : Answered (fresh 5 9) (feed_kinds (3 ∷ [])) (refused 22 5)
-not_22 = not_by (fresh 5 9) 3 21 22 5 refl refl (λ q n. omega arith) (λ q n f. omega arith) (λ q n f. omega arith)
-
 -- ---- engines
 
 -- the number of an answer that is a refusal

@@ -1,6 +1,6 @@
 -- What the statements on tokens with values say and exclude: lists of one length, values ignored, and the tag 6 fields in stretch and program.
 use Rattle.std.specs.Prelude.{ℕ, zero, suc, ◌≡◌, refl, Bool, true, false, List, [], ◌∷◌, take, drop, pos, negsuc}
-use Rattle.std.proofs.Common.{arith, ap, inl, lit<}
+use Rattle.std.proofs.Common.{arith, ap, inl, inr, lit<}
 use Rattle.meaning.specs.Grammar.{const, copy, binary, sum, addc, range}
 use Rattle.meaning.specs.Layout as Layout
 use Rattle.meaning.specs.Layout.{RulesAndConditions, nothing, condition, production}
@@ -24,6 +24,7 @@ brought = refl
 ignored : SameWhereCarried lengths (0 ∷ 1 ∷ []) (pos 3 ∷ pos 4 ∷ []) (pos 3 ∷ pos 9 ∷ [])
 ignored zero l i = refl
 ignored (suc zero) l (inl e) = absurd (omega (arith, e))
+ignored (suc zero) l (inr e) = elim e [ ]
 ignored (suc (suc n)) l i = absurd (omega arith)
 
 -- ---- the program tells which tokens carry a value

@@ -1,1 +1,2 @@
 // 02 (k): a window over the last values: the definitions and the statements; no code.
+#![tactic(auto)]

@@ -41,25 +41,31 @@ module _ (g : Grammar) (lent : Lent) where
     one : (e : Config) (ws : List Act) → next g lent (look_at us) c ≡ moved e → Makes g lent (unread c e us) e ws vs d → First us c vs d
 
   first : {us vs : List Leaf} {c d : Config} {ws : List Act} → Makes g lent us c ws vs d → First us c vs d
-  first nothing = none refl refl
-  first {us} {c = c} (and_then {ws = ws} {vs = vs} {d = d} p i is fs e m f h) = go (first m)
+  first {us} {c = c} k = by k
     where
-      go : First us c vs d → First us c (unread d e vs) e
-      go (none x y) = one e [] (subst₂ (λ v b. next g lent (look_at v) b ≡ moved e) x y h) (subst₂ (λ v b. Makes g lent (unread c e us) e [] (unread b e v) e) (sym x) (sym y) nothing)
-      go (one e' zs h' m') = one e' _ h' (and_then p i is fs e m' f h)
+      by : {vs : List Leaf} {d : Config} {ws : List Act} → Makes g lent us c ws vs d → First us c vs d
+      by nothing = none refl refl
+      by (and_then {ws = ws} {vs = vs} {d = d} p i is fs e m f h) = go (by m)
+        where
+          go : First us c vs d → First us c (unread d e vs) e
+          go (none x y) = one e [] (subst₂ (λ v b. next g lent (look_at v) b ≡ moved e) x y h) (subst₂ (λ v b. Makes g lent (unread c e us) e [] (unread b e v) e) (sym x) (sym y) nothing)
+          go (one e' zs h' m') = one e' _ h' (and_then p i is fs e m' f h)
 
   -- of two sequences one continues the other
   compare : {us vs vs' : List Leaf} {c d d' : Config} {ws ws' : List Act} → Makes g lent us c ws vs d → Makes g lent us c ws' vs' d' → ((zs : List Act) × Makes g lent vs d zs vs' d') ⊎ ((zs : List Act) × Makes g lent vs' d' zs vs d)
-  compare nothing n = inl (_, n)
-  compare {vs' = vs'} {d' = d'} (and_then {vs = vs} {d = d} p i is fs e m f h) n = go (compare m n)
+  compare {us} {vs' = vs'} {c = c} {d' = d'} k n = by k
     where
-      on : First vs d vs' d' → ((zs : List Act) × Makes g lent (unread d e vs) e zs vs' d') ⊎ ((zs : List Act) × Makes g lent vs' d' zs (unread d e vs) e)
-      on (none x y) = inr (_, subst₂ (λ v b. Makes g lent v b (act_by p i e ∷ []) (unread d e vs) e) (sym x) (sym y) (and_then p i is fs e nothing f h))
-      on (one e' zs h' m') = inl (zs, subst (λ z. Makes g lent (unread d z vs) z zs vs' d') (moved_is e' e (sym h' ∙ h)) m')
+      by : {vs : List Leaf} {d : Config} {ws : List Act} → Makes g lent us c ws vs d → ((zs : List Act) × Makes g lent vs d zs vs' d') ⊎ ((zs : List Act) × Makes g lent vs' d' zs vs d)
+      by nothing = inl (_, n)
+      by (and_then {vs = vs} {d = d} p i is fs e m f h) = go (by m)
+        where
+          on : First vs d vs' d' → ((zs : List Act) × Makes g lent (unread d e vs) e zs vs' d') ⊎ ((zs : List Act) × Makes g lent vs' d' zs (unread d e vs) e)
+          on (none x y) = inr (_, subst₂ (λ v b. Makes g lent v b (act_by p i e ∷ []) (unread d e vs) e) (sym x) (sym y) (and_then p i is fs e nothing f h))
+          on (one e' zs h' m') = inl (zs, subst (λ z. Makes g lent (unread d z vs) z zs vs' d') (moved_is e' e (sym h' ∙ h)) m')
 
-      go : ((zs : List Act) × Makes g lent vs d zs vs' d') ⊎ ((zs : List Act) × Makes g lent vs' d' zs vs d) → ((zs : List Act) × Makes g lent (unread d e vs) e zs vs' d') ⊎ ((zs : List Act) × Makes g lent vs' d' zs (unread d e vs) e)
-      go (inl k) = on (first k.1)
-      go (inr k) = inr (_, and_then p i is fs e k.1 f h)
+          go : ((zs : List Act) × Makes g lent vs d zs vs' d') ⊎ ((zs : List Act) × Makes g lent vs' d' zs vs d) → ((zs : List Act) × Makes g lent (unread d e vs) e zs vs' d') ⊎ ((zs : List Act) × Makes g lent vs' d' zs (unread d e vs) e)
+          go (inl k) = on (first k.1)
+          go (inr k) = inr (_, and_then p i is fs e k.1 f h)
 
   -- tokens and moves grow, and what is unread are the tokens after those read
   record Grows (us : List Leaf) (c : Config) (vs : List Leaf) (d : Config) : Type 0 where
@@ -68,17 +74,20 @@ module _ (g : Grammar) (lent : Lent) where
     pub rest : vs ≡ drop (d.tokens - c.tokens) us
 
   grows : {us vs : List Leaf} {c d : Config} {ws : List Act} → Makes g lent us c ws vs d → Grows us c vs d
-  grows {us} {c = c} nothing = let z : 0 ≡ c.tokens - c.tokens = omega arith in record { tokens = omega arith; moves = omega arith; rest = ap (λ n. drop n us) z }
-  grows {us} {c = c} (and_then {vs = vs} {d = d} p i is fs e m f h) =
-      let k = grows m in
-      let q = counts g lent (look_at vs) d e h in
-      let up : d.tokens ≤ e.tokens = read_up q.tokens in
-      let sum : (d.tokens - c.tokens) + (e.tokens - d.tokens) ≡ e.tokens - c.tokens = omega (arith, k.tokens, up) in
-      record { tokens = omega (arith, k.tokens, up); moves = omega (arith, k.moves, q.moves); rest = ap (drop (e.tokens - d.tokens)) k.rest ∙ (drop-drop (e.tokens - d.tokens) (d.tokens - c.tokens) us ∙ ap (λ n. drop n us) sum) }
+  grows {us} {c = c} m = by m
     where
-      read_up : {l : Coming} → (e.tokens ≡ d.tokens) ⊎ ((t : Leaf) × (l ≡ comes t) × (e.tokens ≡ suc d.tokens)) → d.tokens ≤ e.tokens
-      read_up (inl z) = omega (arith, z)
-      read_up (inr z) = omega (arith, z.2)
+      by : {vs : List Leaf} {d : Config} {ws : List Act} → Makes g lent us c ws vs d → Grows us c vs d
+      by nothing = let z : 0 ≡ c.tokens - c.tokens = omega arith in record { tokens = omega arith; moves = omega arith; rest = ap (λ n. drop n us) z }
+      by (and_then {vs = vs} {d = d} p i is fs e m f h) =
+          let k = by m in
+          let q = counts g lent (look_at vs) d e h in
+          let up : d.tokens ≤ e.tokens = read_up q.tokens in
+          let sum : (d.tokens - c.tokens) + (e.tokens - d.tokens) ≡ e.tokens - c.tokens = omega (arith, k.tokens, up) in
+          record { tokens = omega (arith, k.tokens, up); moves = omega (arith, k.moves, q.moves); rest = ap (drop (e.tokens - d.tokens)) k.rest ∙ (drop-drop (e.tokens - d.tokens) (d.tokens - c.tokens) us ∙ ap (λ n. drop n us) sum) }
+        where
+          read_up : {l : Coming} → (e.tokens ≡ d.tokens) ⊎ ((t : Leaf) × (l ≡ comes t) × (e.tokens ≡ suc d.tokens)) → d.tokens ≤ e.tokens
+          read_up (inl z) = omega (arith, z)
+          read_up (inr z) = omega (arith, z.2)
 
 -- ---- what may be read and predicted
 
@@ -157,18 +166,21 @@ module _ (g : Grammar) (wf : WellFormed g) (lent : Lent) where
 
   -- a token that is none of the grammar's is never read
   never_read_on : (t : Leaf) → g.terminals ≤ t.kind → {us vs : List Leaf} {d e : Config} {ws : List Act} → Known g (t ∷ us) → Makes g lent (t ∷ us) d ws vs e → ShapedAt g d → e.tokens ≡ d.tokens
-  never_read_on t b o nothing s = refl
-  never_read_on t b {us = us} {d = d} o (and_then {vs = vs} {d = d'} p i is fs e m f h) s = step (never_read_on t b o m s)
+  never_read_on t b {us = us} {d = d} o k s = on k
     where
-      by : next g lent (comes t) d' ≡ moved e → d'.tokens ≡ d.tokens → (e.tokens ≡ d'.tokens) ⊎ ((u : Leaf) × (comes t ≡ comes u) × (e.tokens ≡ suc d'.tokens)) → e.tokens ≡ d.tokens
-      by h' same (inl q) = q ∙ same
-      by h' same (inr q) = absurd (omega (arith, read_known t d' e (makes_keep_leaves g lent (ShapedAt g) (λ l z x y k n. shape_move g wf lent l z x y k n) o m s) h' q.2))
+      on : {vs : List Leaf} {e : Config} {ws : List Act} → Makes g lent (t ∷ us) d ws vs e → e.tokens ≡ d.tokens
+      on nothing = refl
+      on (and_then {vs = vs} {d = d'} p i is fs e m f h) = step (on m)
+        where
+          by : next g lent (comes t) d' ≡ moved e → d'.tokens ≡ d.tokens → (e.tokens ≡ d'.tokens) ⊎ ((u : Leaf) × (comes t ≡ comes u) × (e.tokens ≡ suc d'.tokens)) → e.tokens ≡ d.tokens
+          by h' same (inl q) = q ∙ same
+          by h' same (inr q) = absurd (omega (arith, read_known t d' e (makes_keep_leaves g lent (ShapedAt g) (λ l z x y k n. shape_move g wf lent l z x y k n) o m s) h' q.2))
 
-      step : d'.tokens ≡ d.tokens → e.tokens ≡ d.tokens
-      step same =
-          let z : d'.tokens - d.tokens ≡ 0 = omega (arith, same) in
-          let h' = subst (λ v. next g lent (look_at v) d' ≡ moved e) ((grows g lent m).rest ∙ ap (λ n. drop n (t ∷ us)) z) h in
-          by h' same (counts g lent (comes t) d' e h').tokens
+          step : d'.tokens ≡ d.tokens → e.tokens ≡ d.tokens
+          step same =
+              let z : d'.tokens - d.tokens ≡ 0 = omega (arith, same) in
+              let h' = subst (λ v. next g lent (look_at v) d' ≡ moved e) ((grows g lent m).rest ∙ ap (λ n. drop n (t ∷ us)) z) h in
+              by h' same (counts g lent (comes t) d' e h').tokens
 
 -- ---- lists
 

@@ -19,8 +19,11 @@ use Rattle.theory_answers.specs.Bounds.{counts, look_free, no_read, Blocks, bloc
 -- what every move keeps, moves keep
 pub makes_keep : (g : Grammar) (lent : Lent) (Inv : Config → Type 0) → ((l : Coming) (c d : Config) → Inv c → next g lent l c ≡ moved d → Inv d)
     → {us vs : List Leaf} {c d : Config} {ws : List Act} → Makes g lent us c ws vs d → Inv c → Inv d
-makes_keep g lent Inv keeps nothing s = s
-makes_keep g lent Inv keeps (and_then {vs = vs} {d = d} p i is fs e m f h) s = keeps (look_at vs) d e (makes_keep g lent Inv keeps m s) h
+makes_keep g lent Inv keeps {us} {c = c} m s = go m
+  where
+    go : {vs : List Leaf} {d : Config} {ws : List Act} → Makes g lent us c ws vs d → Inv d
+    go nothing = s
+    go (and_then {vs = vs} {d = d} p i is fs e m f h) = keeps (look_at vs) d e (go m) h
 
 -- ---- what a grammar sees of the tokens to come
 
@@ -34,14 +37,20 @@ is_ahead g [] h = tt
 is_ahead g (u ∷ us) h = (both (is_leaf_of g u) (all (is_leaf_of g) us) h).0
 
 pub makes_leaves : (g : Grammar) (lent : Lent) {us vs : List Leaf} {c d : Config} {ws : List Act} → T (all (is_leaf_of g) us) → Makes g lent us c ws vs d → T (all (is_leaf_of g) vs)
-makes_leaves g lent t nothing = t
-makes_leaves g lent t (and_then {vs = vs} {d = d} p i is fs e m f h) = all_drop g (e.tokens - d.tokens) vs (makes_leaves g lent t m)
+makes_leaves g lent {us} {c = c} t m = go m
+  where
+    go : {vs : List Leaf} {d : Config} {ws : List Act} → Makes g lent us c ws vs d → T (all (is_leaf_of g) vs)
+    go nothing = t
+    go (and_then {vs = vs} {d = d} p i is fs e m f h) = all_drop g (e.tokens - d.tokens) vs (go m)
 
 -- what every move on such tokens keeps, moves keep
 pub makes_keep_leaves : (g : Grammar) (lent : Lent) (Inv : Config → Type 0) → ((l : Coming) → IsAhead g l → (c d : Config) → Inv c → next g lent l c ≡ moved d → Inv d)
     → {us vs : List Leaf} {c d : Config} {ws : List Act} → T (all (is_leaf_of g) us) → Makes g lent us c ws vs d → Inv c → Inv d
-makes_keep_leaves g lent Inv keeps t nothing s = s
-makes_keep_leaves g lent Inv keeps t (and_then {vs = vs} {d = d} p i is fs e m f h) s = keeps (look_at vs) (is_ahead g vs (makes_leaves g lent t m)) d e (makes_keep_leaves g lent Inv keeps t m s) h
+makes_keep_leaves g lent Inv keeps {us} {c = c} t m s = go m
+  where
+    go : {vs : List Leaf} {d : Config} {ws : List Act} → Makes g lent us c ws vs d → Inv d
+    go nothing = s
+    go (and_then {vs = vs} {d = d} p i is fs e m f h) = keeps (look_at vs) (is_ahead g vs (makes_leaves g lent t m)) d e (go m) h
 
 -- ---- the tokens to come while one is at hand
 

@@ -1,1 +1,2 @@
 // Bits of a number, proved; no code.
+#![tactic(auto)]

@@ -97,15 +97,18 @@ module _ (g : Grammar) (w : WellFormed g) (m₀ : Stacks) where
 -- ---- the first of its moves
 
 makes_first : {g : Grammar} {lent : Lent} {us vs : List Leaf} {c d : Config} {ws : List Act} (n : ℕ) → Makes g lent us c ws vs d → n ≤ length ws → (vs' : List Leaf) × (e : Config) × Makes g lent us c (take n ws) vs' e
-makes_first {g} {lent} {us} {c = c} n nothing l = (us, c, subst (λ z. Makes g lent us c z us c) (sym (take_all n [] (omega arith))) nothing)
-makes_first {g} {lent} {us} {c = c} n (and_then {ws = ws} {vs = vs} {d = d} p i is fs e k f h) l = go (dec_le n (length ws)) (λ q. makes_first n k q)
+makes_first {g} {lent} {us} {c = c} n m l = by m l
   where
-    whole : List Act
-    whole = ws ++ (act_by p i e ∷ [])
+    by : {vs : List Leaf} {d : Config} {ws : List Act} → Makes g lent us c ws vs d → n ≤ length ws → (vs' : List Leaf) × (e : Config) × Makes g lent us c (take n ws) vs' e
+    by nothing l = (us, c, subst (λ z. Makes g lent us c z us c) (sym (take_all n [] (omega arith))) nothing)
+    by (and_then {ws = ws} {vs = vs} {d = d} p i is fs e k f h) l = go (dec_le n (length ws)) (λ q. by k q)
+      where
+        whole : List Act
+        whole = ws ++ (act_by p i e ∷ [])
 
-    go : Dec (n ≤ length ws) → (n ≤ length ws → (vs' : List Leaf) × (d' : Config) × Makes g lent us c (take n ws) vs' d') → (vs' : List Leaf) × (d' : Config) × Makes g lent us c (take n whole) vs' d'
-    go (yes q) ih = let r = ih q in (r.0, r.1, subst (λ z. Makes g lent us c z r.0 r.1) (sym (take-append-le n ws (act_by p i e ∷ []) q)) r.2)
-    go (no q) ih = (unread d e vs, e, subst (λ z. Makes g lent us c z (unread d e vs) e) (sym (take_all n whole (omega (arith, length-append ws (act_by p i e ∷ []))))) (and_then p i is fs e k f h))
+        go : Dec (n ≤ length ws) → (n ≤ length ws → (vs' : List Leaf) × (d' : Config) × Makes g lent us c (take n ws) vs' d') → (vs' : List Leaf) × (d' : Config) × Makes g lent us c (take n whole) vs' d'
+        go (yes q) ih = let r = ih q in (r.0, r.1, subst (λ z. Makes g lent us c z r.0 r.1) (sym (take-append-le n ws (act_by p i e ∷ []) q)) r.2)
+        go (no q) ih = (unread d e vs, e, subst (λ z. Makes g lent us c z (unread d e vs) e) (sym (take_all n whole (omega (arith, length-append ws (act_by p i e ∷ []))))) (and_then p i is fs e k f h))
 
 module _ (bs : List ℕ) (g : Grammar) (a : Accepted bs g) (lent : Lent) (stream : List Leaf) (seen : T (all (is_leaf_of g) stream)) where
   passed : {ws : List Act} {vs : List Leaf} {d : Config} → Makes g lent stream (opening g) ws vs d → (first later : List Act) → ws ≡ first ++ later → Passed g lent stream first

@@ -16,11 +16,14 @@ use Rattle.theory_demands.specs.ByGrammar.{by_grammar}
 
 module _ (g : Grammar) (lent : Lent) where
   pub counted : {us vs : List Leaf} {c d : Config} {ws : List Act} → Makes g lent us c ws vs d → d.moves ≡ length ws + c.moves
-  counted {c = c} nothing = omega arith
-  counted (and_then {ws = ws} {vs = vs} {d = d} p i is fs e m f h) =
-      let n = (counts g lent (look_at vs) d e h).moves in
-      let k = length-append ws (act_by p i e ∷ []) in
-      omega (arith, n, k, counted m)
+  counted {us} {c = c} m = go m
+    where
+      go : {vs : List Leaf} {d : Config} {ws : List Act} → Makes g lent us c ws vs d → d.moves ≡ length ws + c.moves
+      go nothing = omega arith
+      go (and_then {ws = ws} {vs = vs} {d = d} p i is fs e m f h) =
+          let n = (counts g lent (look_at vs) d e h).moves in
+          let k = length-append ws (act_by p i e ∷ []) in
+          omega (arith, n, k, go m)
 
 pub reached_always : ReachedAlways
 reached_always program bs g m₀ ts is_over r m a h = go (runs g (accepted_well_formed bs g a) m₀ (leaves g ts) is_over r m (by_grammar program bs g a h))

@@ -6,10 +6,10 @@ use Rattle.std.proofs.Math.Option.{Option}
 use Rattle.std.proofs.Math.IntN.{+ℤ_idl, +ℤ_idr}
 use Rattle.std.specs.Int.Signed.{le_z, ≤ℤ_refl}
 use Rattle.meaning.specs.Limits.{attributes_limit}
-use Rattle.meaning.specs.Base.{In, all, count_from}
+use Rattle.meaning.specs.Base.{In, count_from}
 use Rattle.meaning.specs.Grammar.{Condition, range, atmost}
 use Rattle.meaning.specs.Value.{added, holds}
-use Rattle.meaning.specs.Differences.{bound, at, put, lesser, lowered, constrained, matrix_of, closed, none_negative, solvable}
+use Rattle.meaning.specs.Differences.{bound, at, lesser, lowered, constrained, matrix_of, closed, none_negative, solvable}
 use Rattle.theory_base.specs.Members.{in_from, from_in, all_in, in_all, same_truth}
 use Rattle.theory_differences.specs.Order.{lesser_first, lesser_second, lesser_keeps, ≤-is, ≤_trans}
 use Rattle.meaning_statements.specs.CompareStatements.{value_in, Satisfiable, Edge, highest_edge, lowest_edge, high_edge, low_edge, atmost_edge, Walk, step, join, NegativeCycle}

@@ -6,7 +6,7 @@ use Rattle.std.proofs.Math.IntN.{+ℤ_idl}
 use Rattle.std.proofs.Math.ListN.{get_or-eq_default}
 use Rattle.std.specs.Int.Signed.{le_z}
 use Rattle.meaning.specs.Limits.{attributes_limit}
-use Rattle.meaning.specs.Base.{all, In}
+use Rattle.meaning.specs.Base.{In}
 use Rattle.meaning.specs.Grammar.{Condition, range, atmost}
 use Rattle.meaning.specs.Value.{in_range, lowest, highest, added, holds}
 use Rattle.meaning.specs.Differences.{bound, at, closing, closed}

@@ -1,7 +1,7 @@
 -- The graph of the differences: node 0 stands for zero, node a for the attribute a. An edge from i to j with the length w says that i's value is at most j's plus w.
 use Prim.Native.Nat.{ℕ, zero, suc, ◌≤◌, ◌<◌}
 use Rattle.std.proofs.Common.{arith, ap, ◌∙◌, lt-ltb, le-ltb, ltb→lt, nltb→le}
-use Rattle.std.specs.Prelude.{◌≡◌, refl, Bool, ◌&&◌, not, List, [], ◌∷◌, ltb, ℤ, ◌+ℤ◌, get_or, length, ◌≤ℤ◌}
+use Rattle.std.specs.Prelude.{◌≡◌, Bool, ◌&&◌, not, List, [], ◌∷◌, ltb, ℤ, ◌+ℤ◌, get_or, length, ◌≤ℤ◌}
 use Rattle.std.proofs.Math.Path.{sym}
 use Rattle.std.proofs.Math.Bool.{true, false, cond}
 use Rattle.std.proofs.Math.Option.{Option}

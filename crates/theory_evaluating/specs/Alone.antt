@@ -9,7 +9,7 @@ use Rattle.meaning.specs.Machine.{Config, Settled, stopped, failed, comes, ends,
 use Rattle.meaning.specs.Calls.{Stacks, Answer, lent_of, lay_all, tokens_from, after_finish_value}
 use Rattle.meaning_ranking.specs.RankCall.{evaluated, Evaluation, and_then, evaluations}
 use Rattle.meaning_ranking.specs.RankingStatements.{Candidate, candidates_of, numbered, last_left, is_refusal, candidate_answer}
-use Rattle.theory_base.specs.Members.{both, all_take, all_drop}
+use Rattle.theory_base.specs.Members.{all_take, all_drop}
 use Rattle.theory_base.specs.Feeds.{leaves_of}
 use Rattle.theory_answers.specs.Memory.{Within, lent_kept}
 use Rattle.theory_answers.specs.Bounds.{Blocks, at_limit, not_expected, condition_false, out_of_range, no_register, no_place}

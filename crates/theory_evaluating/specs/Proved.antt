@@ -10,7 +10,7 @@ use Rattle.meaning_house.specs.Order.{Shuffled, through}
 use Rattle.meaning.specs.Calls as Calls
 use Rattle.meaning.specs.Calls.{Stacks, Answer}
 use Rattle.meaning.specs.PublicCalls.{Checked, usable, unusable, check, area_length, written}
-use Rattle.meaning_ranking.specs.Ranking.{RankEntry, rank_entry, number, value, valued, Ranks, ranking, cells_of, worth, total_of, valued_of}
+use Rattle.meaning_ranking.specs.Ranking.{RankEntry, rank_entry, value, valued, Ranks, ranking, cells_of, worth, total_of, valued_of}
 use Rattle.meaning_ranking.specs.RankCall.{evaluated, rank_entry_of, evaluations, ranked, unranked, RankEffect, in_order_value, listed, rank_even, rank_under, rank_long, rank_suited, rank_of}
 use Rattle.meaning_ranking.specs.RankingStatements.{Candidate, candidates_of, entries_for, CandidatesBrought, RankedExactly, RankedInFront, numbered, RankedAlone, RankedAnswers, RankedValues, unnumbered, RankedAnyOrder, RankedUntouched}
 use Rattle.theory_table.specs.AcceptedTable.{accepted_well_formed}

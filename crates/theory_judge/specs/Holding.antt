@@ -8,7 +8,7 @@ use Rattle.std.specs.Int.Signed.{le_z}
 use Rattle.meaning.specs.Base.{all}
 use Rattle.meaning.specs.Grammar.{Occurrence, Function, const, copy, binary, sum, diff, prod, maxi, mini, addc, quot, Rule, Condition, range, atmost}
 use Rattle.meaning.specs.Rules.{Constant, Proper}
-use Rattle.meaning.specs.Layout.{field, rule_bytes, condition_bytes, rule, condition}
+use Rattle.meaning.specs.Layout.{field, rule_bytes, condition_bytes}
 use Rattle.meaning.specs.Table.{byte, constant_at}
 use Rattle.meaning.specs.Value.{apply, holds}
 use Rattle.theory_base.specs.Members.{both, and_swap}

@@ -5,7 +5,7 @@ use Rattle.meaning.specs.Grammar.{Grammar, Leaf, leaves}
 use Rattle.meaning.specs.Judgement.{Accepted}
 use Rattle.meaning.specs.Tree.{Tree, value_of}
 use Rattle.meaning.specs.Calls.{Stacks, refused, open_of, feed_of, lent_of, tokens_from}
-use Rattle.meaning.specs.PublicCalls.{Checked, usable, unusable, check, Call, feed, finish, area_length, Effect, opens, performs}
+use Rattle.meaning.specs.PublicCalls.{Checked, usable, unusable, check, Call, feed, finish, area_length, Effect, performs}
 use Rattle.meaning_sheet.specs.Sheet.{sheet_of}
 use Rattle.meaning_sheet.specs.SheetCalls.{unless_refused, stack_run_value}
 use Rattle.meaning_judge.specs.Judge.{Describes, JudgeAnswer, worth, turned_back, Settles, SettlesIf, SettlesUnder, JudgedAs}

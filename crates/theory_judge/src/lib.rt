@@ -1,1 +1,2 @@
 // 02 (m): a sheet describes a tree; no code.
+#![tactic(auto)]

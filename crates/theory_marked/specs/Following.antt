@@ -56,5 +56,8 @@ module _ {g : Grammar} (s : Sane g) (one : OneStart g) where
       record { before = r.0; context = r.1; rest = r.2; framed = framed_move g s.formed lent (look_at vs) c d f.framed h }
 
   pub follow_makes : (lent : Lent) {us vs : List Leaf} {c d : Config} {ws : List Act} → Makes g lent us c ws vs d → Following g us c → Following g vs d
-  follow_makes lent nothing f = f
-  follow_makes lent (and_then {vs = vs} {d = d} p i is fs e m q h) f = follow_move lent vs d e (follow_makes lent m f) h
+  follow_makes lent {us} {c = c} m f = go m
+    where
+      go : {vs : List Leaf} {d : Config} {ws : List Act} → Makes g lent us c ws vs d → Following g vs d
+      go nothing = f
+      go (and_then {vs = vs} {d = d} p i is fs e m q h) = follow_move lent vs d e (go m) h

@@ -12,7 +12,7 @@ pub mod Following
 pub mod Unblocked
 -- A feed or a finish that is refused: the token at hand, and what its moves kept until one was blocked
 pub mod Failing
--- The marked token is the first impossible one: after every list of calls
+-- The token at which an open run is refused by 21 is the first impossible one, and what 24 says of the tokens fed
 pub mod Marked
--- The promises' premises are met, and 21 and 24 are given: words and tags without its entry condition, words and tags itself, whose sets never meet, and a table whose entry conditions choose, for which the promise fails
+-- The promises' premises are met: words and tags without its entry condition, words and tags itself, whose sets never meet, and a table whose entry conditions choose, for which the promise fails
 pub mod MarkedRows

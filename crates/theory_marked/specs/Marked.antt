@@ -1,29 +1,22 @@
--- The marked token is the first impossible one: after every list of calls.
+-- The token at which an open run is refused by 21 is the first impossible one, and what 24 says of the tokens fed. The promises after every list of calls rest on this: proofs/Marked.
 use Rattle.std.specs.Prelude.{ℕ, suc, ◌≤◌, ◌<◌, ◌≡◌, refl, Bool, true, false, List, [], ◌∷◌, ◌++◌, map, length, take, ltb, ℤ, pos}
-use Rattle.std.proofs.Common.{arith, sym, ap, ap₂, ◌∙◌, subst, inl, inr, append_assoc, append-nil, length-append, take_at, nltb→le}
-use Rattle.std.proofs.Math.Decide.{ℕ_discrete}
+use Rattle.std.proofs.Common.{arith, sym, ap, ap₂, ◌∙◌, subst, append_assoc, append-nil, length-append, take_at, nltb→le}
 use Rattle.std.proofs.lemmas.List.{map-append, length-map}
 use Rattle.meaning.specs.Grammar.{Grammar, Token, Leaf, leaves}
 use Rattle.meaning.specs.Table.{grammar_of}
 use Rattle.meaning.specs.Machine.{Config, Lent, comes, Settled, stopped, failed, advance_from, feed_all, finish_all, opening, tokens_limit}
-use Rattle.meaning.specs.Calls.{Status, running, waiting, closed, Kind, outer, inner, admitted, turned_back, gate, Record, Stacks, Called, refused, value, lent_of, lay_all, after_feed, after_finish_value, as_brought, when_fit, tokens_from, stacks_fit, feed_of, finish_of}
-use Rattle.meaning.specs.PublicCalls.{Call, feed, finish, call_of, area_length, Effect, effect, written, check, usable, unusable, performs}
-use Rattle.theory_base.specs.Feeds.{feed_leaves, even_feed, uneven_feed}
+use Rattle.meaning.specs.Calls.{Status, running, waiting, closed, Kind, outer, inner, admitted, turned_back, gate, Record, Stacks, Called, refused, value, lent_of, lay_all, after_finish_value, as_brought, when_fit, tokens_from, stacks_fit, finish_of}
+use Rattle.meaning.specs.PublicCalls.{Call, call_of, area_length, Effect, effect, written, check, usable, unusable, performs}
 use Rattle.theory_answers.specs.Runs.{Leads, Anything, Fed, fed}
-use Rattle.theory_answers.specs.TurnedBack.{by_gate_lem}
-use Rattle.theory_sets.specs.Accepted.{Sane, accepted_sane}
-use Rattle.theory_sound.specs.CallSound.{feed_is, finish_is}
-use Rattle.theory_sound.specs.Histories.{OpenRun, Run, runs, not_more}
+use Rattle.theory_sets.specs.Accepted.{Sane}
+use Rattle.theory_sound.specs.CallSound.{finish_is}
+use Rattle.theory_sound.specs.Histories.{OpenRun}
 use Rattle.theory_sound.specs.ValueSound.{not_value}
-use Rattle.theory_demands.specs.ByGrammar.{performs_is, by_grammar}
-use Rattle.meaning_statements.specs.MarkedToken.{kinds, TokenString, Begins, OneStart, MarkedToken, MarkedByStart, MarkedBegins}
+use Rattle.meaning_statements.specs.MarkedToken.{kinds, TokenString, Begins, OneStart}
 use Rattle.theory_marked.specs.Remaining.{kinds_of}
 use Rattle.theory_marked.specs.Prefixes.{Ahead, opening_ahead, ahead_makes, begins}
-use Rattle.theory_marked.specs.Choice.{unconditional_starts}
 use Rattle.theory_marked.specs.Following.{Following, opening_follows, follow_makes}
 use Rattle.theory_marked.specs.Failing.{FailedAt, failed_at, by_moves, count_kept, never}
-use Rattle.meaning.specs.Judgement.{Accepted}
-use Rattle.meaning_statements.specs.Statements.{History}
 use Rattle.meaning.specs.Calls as Calls
 
 -- ---- tokens of given kinds
@@ -39,7 +32,7 @@ kinds_are : (g : Grammar) (ks : List ℕ) → kinds_of (of_kinds g ks) ≡ ks
 kinds_are g [] = refl
 kinds_are g (k ∷ ks) = ap (λ z. k ∷ z) (kinds_are g ks)
 
-kinds_append : (us vs : List Leaf) → kinds_of (us ++ vs) ≡ kinds_of us ++ kinds_of vs
+pub kinds_append : (us vs : List Leaf) → kinds_of (us ++ vs) ≡ kinds_of us ++ kinds_of vs
 kinds_append us vs = map-append (λ u. u.kind) us vs
 
 kinds_length : (us : List Leaf) → length (kinds_of us) ≡ length us
@@ -65,7 +58,7 @@ module _ {g : Grammar} (s : Sane g) (lent : Lent) (ts : List Leaf) (c : Config) 
 
 -- ---- the calls on an open run
 
-refused_is : {j k n m : ℕ} → refused j n ≡ refused k m → (j ≡ k) × (n ≡ m)
+pub refused_is : {j k n m : ℕ} → refused j n ≡ refused k m → (j ≡ k) × (n ≡ m)
 refused_is e = (cc, cc)
 
 module _ {g : Grammar} (s : Sane g) (m₀ : Stacks) (ts : List Leaf) (r : Record) (m : Stacks) (o : OpenRun g m₀ ts r m) where
@@ -82,7 +75,7 @@ module _ {g : Grammar} (s : Sane g) (m₀ : Stacks) (ts : List Leaf) (r : Record
     pub begins : Begins g (take n (kinds_of (ts ++ us)))
     pub none : OneStart g → Begins g (take (suc n) (kinds_of (ts ++ us))) → ⊥
 
-  marked_at : (us : List Leaf) (e : Config) → feed_all g (lent_of m₀) us o.config ≡ failed e 21 → MarkedAt us e.tokens
+  pub marked_at : (us : List Leaf) (e : Config) → feed_all g (lent_of m₀) us o.config ≡ failed e 21 → MarkedAt us e.tokens
   marked_at us e h = record {
     inside = omega (arith, kinds_length (ts ++ us), ap length joined, length-append xs (t ∷ f.after), size);
     begins = subst (Begins g) (sym first) (first_half s (lent_of m₀) xs d leads);
@@ -130,20 +123,10 @@ module _ {g : Grammar} (s : Sane g) (m₀ : Stacks) (ts : List Leaf) (r : Record
           let same : (kinds_of xs ++ (t.kind ∷ [])) ++ b.0 ≡ kinds_of (xs ++ vs) = append_assoc (kinds_of xs) (t.kind ∷ []) b.0 ∙ (ap (λ z. kinds_of xs ++ (t.kind ∷ z)) (sym (kinds_are g b.0)) ∙ sym (kinds_append xs vs)) in
           never s one (lent_of m₀) vs d.tokens d e refl (follows s (lent_of m₀) xs d leads one vs (subst (TokenString g) same b.1)) moves
 
-  feed_marked : (us : List Leaf) (n : ℕ) → (feed_leaves g r m us).answer ≡ refused 21 n → MarkedAt us n
-  feed_marked us n h =
-      let c : Config = o.config in
-      let e : feed_leaves g r m us ≡ after_feed g (lay_all g c m₀) (feed_all g (lent_of m₀) us c) = ap₂ (λ a b. feed_leaves g a b us) o.is_record o.is_stacks ∙ feed_is g s.formed m₀ ts c o.stop us in
-      go (feed_all g (lent_of m₀) us c) refl (sym (ap (λ z. z.answer) e) ∙ h)
-    where
-      go : (k : Settled) → feed_all g (lent_of m₀) us o.config ≡ k → (after_feed g (lay_all g o.config m₀) k).answer ≡ refused 21 n → MarkedAt us n
-      go (stopped d) q h = not_more (sym h)
-      go (failed d j) q h = let u = refused_is h in subst (MarkedAt us) u.1 (marked_at us d (q ∙ ap (failed d) u.0))
-
-  finish_begins : Begins g (kinds_of ts)
+  pub finish_begins : Begins g (kinds_of ts)
   finish_begins = first_half s (lent_of m₀) ts o.config o.leads
 
-  finish_none : (n : ℕ) → (finish_of g r m).answer ≡ refused 24 n → OneStart g → TokenString g (kinds_of ts) → ⊥
+  pub finish_none : (n : ℕ) → (finish_of g r m).answer ≡ refused 24 n → OneStart g → TokenString g (kinds_of ts) → ⊥
   finish_none n h one k =
       let c : Config = o.config in
       let e : finish_of g r m ≡ after_finish_value g (lay_all g c m₀) (finish_all g (lent_of m₀) c) = ap₂ (λ a b. finish_of g a b) o.is_record o.is_stacks ∙ finish_is g s.formed m₀ ts c o.stop in
@@ -158,7 +141,7 @@ module _ {g : Grammar} (s : Sane g) (m₀ : Stacks) (ts : List Leaf) (r : Record
 -- ---- any run, any area
 
 -- lists of unequal length answer 33, 40, 34 or 38
-uneven_no : (g : Grammar) (r : Record) (m : Stacks) (n : ℕ) → (when_fit g r m (as_brought (refused 38 0) r m)).answer ≡ refused 21 n → ⊥
+pub uneven_no : (g : Grammar) (r : Record) (m : Stacks) (n : ℕ) → (when_fit g r m (as_brought (refused 38 0) r m)).answer ≡ refused 21 n → ⊥
 uneven_no g r m n h = go r.status r.kind (stacks_fit g r m) h
   where
     go : (s : Status) (k : Kind) (f : Bool) → (elim (gate 34 s k) as (λ x. Called) [ turned_back j ↦ as_brought (refused j 0) r m | admitted ↦ elim f as (λ x. Called) [ false ↦ as_brought (refused 34 0) r m | true ↦ as_brought (refused 38 0) r m ] ]).answer ≡ refused 21 n → ⊥
@@ -169,17 +152,17 @@ uneven_no g r m n h = go r.status r.kind (stacks_fit g r m) h
     go running outer false h = absurd (omega (arith, (refused_is h).0))
     go running outer true h = absurd (omega (arith, (refused_is h).0))
 
-kinds_of_tokens : (g : Grammar) (ts : List Token) → kinds_of (leaves g ts) ≡ kinds ts
+pub kinds_of_tokens : (g : Grammar) (ts : List Token) → kinds_of (leaves g ts) ≡ kinds ts
 kinds_of_tokens g [] = refl
 kinds_of_tokens g (t ∷ ts) = ap (λ z. t.kind ∷ z) (kinds_of_tokens g ts)
 
-kinds_of_feed : (g : Grammar) (ks : List ℕ) (vs : List ℤ) → length ks ≡ length vs → kinds_of (leaves g (tokens_from ks vs)) ≡ ks
+pub kinds_of_feed : (g : Grammar) (ks : List ℕ) (vs : List ℤ) → length ks ≡ length vs → kinds_of (leaves g (tokens_from ks vs)) ≡ ks
 kinds_of_feed g [] vs e = refl
 kinds_of_feed g (k ∷ ks) [] e = absurd (omega (arith, e))
 kinds_of_feed g (k ∷ ks) (v ∷ vs) e = ap (λ z. k ∷ z) (kinds_of_feed g ks vs (omega (arith, e)))
 
 -- a short area answers 30
-long_area : (program : Grammar → List ℕ) (bs area : List ℕ) (r : Record) (m : Stacks) (c : Call) (k n : ℕ) → (performs program bs area r m c).answer ≡ refused k n → (k ≡ 30 → ⊥) → area_length ≤ length area
+pub long_area : (program : Grammar → List ℕ) (bs area : List ℕ) (r : Record) (m : Stacks) (c : Call) (k n : ℕ) → (performs program bs area r m c).answer ≡ refused k n → (k ≡ 30 → ⊥) → area_length ≤ length area
 long_area program bs area r m c k n h other = go (ltb (length area) area_length) refl h
   where
     go : (b : Bool) → ltb (length area) area_length ≡ b → (elim b as (λ z. Effect) [
@@ -188,57 +171,3 @@ long_area program bs area r m c k n h other = go (ltb (length area) area_length)
     ]).answer ≡ refused k n → area_length ≤ length area
     go true e h = absurd (other (sym (refused_is h).0))
     go false e h = nltb→le (length area) area_length (rw e tt)
-
-module _ (program : Grammar → List ℕ) (bs area : List ℕ) (g : Grammar) (m₀ : Stacks) (ts : List Token) (is_over : Bool) (r : Record) (m : Stacks) (a : Accepted bs g) (h : History program bs m₀ ts is_over r m) where
-  s : Sane g
-  s = accepted_sane bs g a
-
-  called : (c : Call) (k n : ℕ) → (performs program bs area r m c).answer ≡ refused k n → (k ≡ 30 → ⊥) → (call_of g r m c).answer ≡ refused k n
-  called c k n q other = sym (ap (λ z. z.answer) (performs_is program bs g a area r m c (long_area program bs area r m c k n q other))) ∙ q
-
-  -- a 21 or a 24 is given by an open run
-  open_run_lem : (c : Call) (k n : ℕ) → (k ≡ 33 → ⊥) → (call_of g r m c).answer ≡ refused k n → OpenRun g m₀ (leaves g ts) r m
-  open_run_lem c k n other q = go (runs g s.formed m₀ (leaves g ts) is_over r m (by_grammar program bs g a h))
-    where
-      -- a closed run answers 33
-      shut : r.status ≡ closed → k ≡ 33
-      shut e = sym (refused_is (sym (ap (λ z. z.answer) (by_gate_lem g r m 33 c (ap (λ s. gate 34 s r.kind) e))) ∙ q)).0
-
-      go : Run g m₀ (leaves g ts) r m → OpenRun g m₀ (leaves g ts) r m
-      go (inl o) = o
-      go (inr o) = absurd (other (shut (ap (λ z. z.status) o.is_record)))
-
-  abbrev Marked : List ℕ → ℕ → Type 0
-  Marked all n = (n < length all) × Begins g (take n all) × (OneStart g → Begins g (take (suc n) all) → ⊥)
-
-  by_feed : (ks : List ℕ) (vs : List ℤ) (n : ℕ) → (performs program bs area r m (feed ks vs)).answer ≡ refused 21 n → Marked (kinds ts ++ ks) n
-  by_feed ks vs n k = go (ℕ_discrete (length ks) (length vs))
-    where
-      us : List Leaf
-      us = leaves g (tokens_from ks vs)
-
-      q : (feed_of g r m ks vs).answer ≡ refused 21 n
-      q = called (feed ks vs) 21 n k (λ z. omega arith)
-
-      go : Dec (length ks ≡ length vs) → Marked (kinds ts ++ ks) n
-      go (yes e) =
-          let v = feed_marked s m₀ (leaves g ts) r m (open_run_lem (feed ks vs) 21 n (λ z. omega arith) q) us n (sym (ap (λ z. z.answer) (even_feed g r m ks vs e)) ∙ q) in
-          let same : kinds_of (leaves g ts ++ us) ≡ kinds ts ++ ks = kinds_append (leaves g ts) us ∙ ap₂ (λ x y. x ++ y) (kinds_of_tokens g ts) (kinds_of_feed g ks vs e) in
-          subst (λ z. Marked z n) same (v.inside, v.begins, v.none)
-      go (no e) = absurd (uneven_no g r m n (sym (ap (λ z. z.answer) (uneven_feed g r m ks vs e)) ∙ q))
-
-  by_finish : (n : ℕ) → (performs program bs area r m finish).answer ≡ refused 24 n → Begins g (kinds ts) × (OneStart g → TokenString g (kinds ts) → ⊥)
-  by_finish n k =
-      let q = called finish 24 n k (λ z. omega arith) in
-      let o = open_run_lem finish 24 n (λ z. omega arith) q in
-      subst (λ z. Begins g z × (OneStart g → TokenString g z → ⊥)) (kinds_of_tokens g ts) (finish_begins s m₀ (leaves g ts) r m o, finish_none s m₀ (leaves g ts) r m o n q)
-
-pub marked_begins : MarkedBegins
-marked_begins program bs area g m₀ ts is_over r m a h = ((λ ks vs n k. let v = by_feed program bs area g m₀ ts is_over r m a h ks vs n k in (v.0, v.1)), (λ n k. (by_finish program bs area g m₀ ts is_over r m a h n k).0))
-
-pub marked_by_start : MarkedByStart
-marked_by_start program bs area g m₀ ts is_over r m a one h =
-    ((λ ks vs n k. let v = by_feed program bs area g m₀ ts is_over r m a h ks vs n k in (v.0, v.1, v.2 one)), (λ n k. let v = by_finish program bs area g m₀ ts is_over r m a h n k in (v.0, v.1 one)))
-
-pub marked_token : MarkedToken
-marked_token program bs area g m₀ ts is_over r m a plain h = marked_by_start program bs area g m₀ ts is_over r m a (unconditional_starts (accepted_sane bs g a) plain) h

@@ -1,4 +1,4 @@
--- The promises' premises are met, and 21 and 24 are given: words and tags without its entry condition, words and tags itself, whose sets never meet, and a table whose entry conditions choose, for which the promise fails.
+-- The promises' premises are met: words and tags without its entry condition, words and tags itself, whose sets never meet, and a table whose entry conditions choose, for which the promise fails. The 21s and the 24 that they give: proofs/MarkedRows.
 use Rattle.std.specs.Prelude.{ℕ, zero, suc, ◌≤◌, ◌≡◌, refl, Bool, true, false, ◌&&◌, ◌||◌, not, List, [], ◌∷◌, map, length, replicate, T, eqb, ℤ, pos}
 use Rattle.std.proofs.Common.{arith, sym, ap, ◌∙◌, subst, eqb→eq}
 use Rattle.std.proofs.Math.Dec.{eqb_refl}
@@ -16,13 +16,12 @@ use Rattle.meaning.specs.Calls.{is_open, Stacks, Called, more, refused, open_of}
 use Rattle.meaning.specs.PublicCalls.{Call, feed, finish, call_of, area_length, written, Effect, effect, opens, performs}
 use Rattle.meaning_statements.specs.CallStatements.{Lendable, Even, tokens_of}
 use Rattle.meaning_statements.specs.Statements.{History, opened, fed}
-use Rattle.meaning_statements.specs.MarkedToken.{TokenString, Begins, FirstImpossible, Unfinished, Unconditional, OneStart, MarkedWhere}
+use Rattle.meaning_statements.specs.MarkedToken.{TokenString, Begins, Unconditional, OneStart, MarkedWhere}
 use Rattle.theory_base.specs.Members.{in_from, all_in}
 use Rattle.theory_sets.specs.Accepted.{Sane, judged_is, accepted_sane}
 use Rattle.theory_sets.specs.Clashes.{meet_at}
 use Rattle.theory_sets.specs.StartSets.{Starts→starts}
 use Rattle.theory_demands.specs.ByGrammar.{opens_is, performs_is}
-use Rattle.theory_marked.specs.Marked.{marked_token, marked_by_start}
 
 -- ---- sets that never meet, by a test
 
@@ -51,48 +50,48 @@ state_of : Read → State
 state_of (well_formed s) = s
 state_of (malformed n o) = nothing_read
 
-abbrev lent : Stacks
+abbrev pub lent : Stacks
 lent = record { registers = replicate 20 mark; places = replicate 9 0 }
 
 -- kinds, with 0 for every value
-abbrev zeros : List ℕ → List ℤ
+abbrev pub zeros : List ℕ → List ℤ
 zeros ks = map (λ k. pos 0) ks
 
-abbrev feed_kinds : List ℕ → Call
+abbrev pub feed_kinds : List ℕ → Call
 feed_kinds ks = feed ks (zeros ks)
 
 module _ (bs : List ℕ) (g : Grammar) (a : Accepted bs g) (program : Grammar → List ℕ) (area : List ℕ) (l : area_length ≤ length area) where
-  abbrev start : Effect
+  abbrev pub start : Effect
   start = opens program bs area lent
 
   starts_by : start ≡ effect (open_of g lent) (written (program g) area)
   starts_by = opens_is program bs g a area lent l
 
-  abbrev call : Call → Effect
+  abbrev pub call : Call → Effect
   call c = performs program bs area start.state start.stacks c
 
-  call_by : (c : Call) → call c ≡ effect (call_of g (open_of g lent).state (open_of g lent).stacks c) (written (program g) area)
+  pub call_by : (c : Call) → call c ≡ effect (call_of g (open_of g lent).state (open_of g lent).stacks c) (written (program g) area)
   call_by c = ap (λ z. performs program bs area z.state z.stacks c) starts_by ∙ performs_is program bs g a area (open_of g lent).state (open_of g lent).stacks c l
 
   abbrev last : List ℕ → Called
   last ks = call_of g (open_of g lent).state (open_of g lent).stacks (feed_kinds ks)
 
   -- a finish behind one feed
-  finish_by : (ks : List ℕ) → performs program bs area (call (feed_kinds ks)).state (call (feed_kinds ks)).stacks finish ≡ effect (call_of g (last ks).state (last ks).stacks finish) (written (program g) area)
+  pub finish_by : (ks : List ℕ) → performs program bs area (call (feed_kinds ks)).state (call (feed_kinds ks)).stacks finish ≡ effect (call_of g (last ks).state (last ks).stacks finish) (written (program g) area)
   finish_by ks = ap (λ z. performs program bs area z.state z.stacks finish) (call_by (feed_kinds ks)) ∙ performs_is program bs g a area (last ks).state (last ks).stacks finish l
 
-  begun : (open_of g lent).answer ≡ more 0 → History program bs lent [] false start.state start.stacks
+  pub begun : (open_of g lent).answer ≡ more 0 → History program bs lent [] false start.state start.stacks
   begun e = opened area (ap (λ z. z.answer) starts_by ∙ e)
 
-  onward : (open_of g lent).answer ≡ more 0 → is_open (open_of g lent).state ≡ true → (ks : List ℕ) → Lendable (feed_kinds ks) → Even (feed_kinds ks) → History program bs lent (tokens_of (feed_kinds ks)) false (call (feed_kinds ks)).state (call (feed_kinds ks)).stacks
+  pub onward : (open_of g lent).answer ≡ more 0 → is_open (open_of g lent).state ≡ true → (ks : List ℕ) → Lendable (feed_kinds ks) → Even (feed_kinds ks) → History program bs lent (tokens_of (feed_kinds ks)) false (call (feed_kinds ks)).state (call (feed_kinds ks)).stacks
   onward e o ks t even = fed area ks (zeros ks) t even (begun e) l (ap (λ z. is_open z.state) starts_by ∙ o)
 
 -- ---- words and tags without its entry condition
 
-abbrev plain : Grammar
+abbrev pub plain : Grammar
 plain = record { terminals = 3; counts = words.counts; carrying = []; start = 0; result = 1; productions = p0 ∷ p1 ∷ record { left = 1; right = p2.right; rules = p2.rules; conditions = [] } ∷ p3 ∷ [] }
 
-unfoldable plain_table : List ℕ
+unfoldable pub plain_table : List ℕ
 plain_table =
     1 ∷ 0 ∷ 4 ∷ 3 ∷ 2 ∷ 0 ∷ 1
     ∷ 2 ∷ 0 ∷ 2 ∷ 0 ∷ 1
@@ -111,48 +110,25 @@ plain_table =
     ∷ 4 ∷ 0 ∷ 7 ∷ 0 ∷ 2 ∷ 0 ∷ 0 ∷ 0 ∷ 0 ∷ 0
     ∷ []
 
-plain_accepted : Accepted plain_table plain
+pub plain_accepted : Accepted plain_table plain
 unfolding plain_table state_of
 plain_accepted = record { state = state_of (read_table plain_table); is_read = refl; is_grammar = refl; judged = (judged_is plain_table accepted).1 refl }
 
-no_entries : Unconditional plain
+pub no_entries : Unconditional plain
 no_entries zero l = refl
 no_entries (suc zero) l = refl
 no_entries (suc (suc zero)) l = refl
 no_entries (suc (suc (suc zero))) l = refl
 no_entries (suc (suc (suc (suc p)))) l = absurd (omega arith)
 
-module _ (program : Grammar → List ℕ) (area : List ℕ) (l : area_length ≤ length area) where
-  -- word, close, word: 21 with one read
-  word_close_lem : FirstImpossible plain (0 ∷ 2 ∷ 0 ∷ []) 1
-  word_close_lem =
-      let e = start plain_table plain plain_accepted program area l in
-      let m = marked_token program plain_table area plain lent [] false e.state e.stacks plain_accepted no_entries (begun plain_table plain plain_accepted program area l refl) in
-      m.0 (0 ∷ 2 ∷ 0 ∷ []) (zeros (0 ∷ 2 ∷ 0 ∷ [])) 1 (ap (λ z. z.answer) (call_by plain_table plain plain_accepted program area l (feed_kinds (0 ∷ 2 ∷ 0 ∷ []))))
-
-  -- word, open, and the end: 24
-  word_open_lem : Unfinished plain (0 ∷ 1 ∷ [])
-  word_open_lem =
-      let e = call plain_table plain plain_accepted program area l (feed_kinds (0 ∷ 1 ∷ [])) in
-      let h = onward plain_table plain plain_accepted program area l refl refl (0 ∷ 1 ∷ []) tt refl in
-      (marked_token program plain_table area plain lent (tokens_of (feed_kinds (0 ∷ 1 ∷ []))) false e.state e.stacks plain_accepted no_entries h).1 2 (ap (λ z. z.answer) (finish_by plain_table plain plain_accepted program area l (0 ∷ 1 ∷ [])))
-
 -- ---- words and tags itself: it has an entry condition, and its sets never meet
 
-words_accepted : Accepted bytes words
+pub words_accepted : Accepted bytes words
 unfolding bytes state_of
 words_accepted = record { state = state_of (read_table bytes); is_read = refl; is_grammar = refl; judged = (judged_is bytes accepted).1 refl }
 
-words_apart : OneStart words
+pub words_apart : OneStart words
 words_apart = one_start words (accepted_sane bytes words words_accepted) tt
-
-module _ (program : Grammar → List ℕ) (area : List ℕ) (l : area_length ≤ length area) where
-  -- open, close, close: 21 with two read
-  close_close : FirstImpossible words (1 ∷ 2 ∷ 2 ∷ []) 2
-  close_close =
-      let e = start bytes words words_accepted program area l in
-      let m = marked_by_start program bytes area words lent [] false e.state e.stacks words_accepted words_apart (begun bytes words words_accepted program area l refl) in
-      m.0 (1 ∷ 2 ∷ 2 ∷ []) (zeros (1 ∷ 2 ∷ 2 ∷ [])) 2 (ap (λ z. z.answer) (call_by bytes words words_accepted program area l (feed_kinds (1 ∷ 2 ∷ 2 ∷ []))))
 
 -- ---- entry conditions that choose between alternatives of one token: L to a b where d is 0, to a c where d is 1; S enters it with d = 0
 

@@ -70,5 +70,8 @@ ahead_move g w lent l ts c d a h = go (onward ts (passes g w lent l c d h) a.der
 
 -- with us to come, none of them known but by its kind
 pub ahead_makes : (g : Grammar) → WellFormed g → (lent : Lent) (ts : List Leaf) {us vs : List Leaf} {c d : Config} {ws : List Act} → Makes g lent us c ws vs d → Ahead g ts c → Along (Ahead g) ts us vs d
-ahead_makes g w lent ts nothing a = record { read = []; split = refl; inv = rw append-nil a }
-ahead_makes g w lent ts {us = us} (and_then {vs = vs} {d = d} p i is fs e m f h) a = let r = ahead_makes g w lent ts m a in kept_on (Ahead g) (λ zs x k. k.tokens) ts us vs d e r (ahead_move g w lent (look_at vs) (ts ++ r.read) d e r.inv h)
+ahead_makes g w lent ts {us} {c = c} m a = go m
+  where
+    go : {vs : List Leaf} {d : Config} {ws : List Act} → Makes g lent us c ws vs d → Along (Ahead g) ts us vs d
+    go nothing = record { read = []; split = refl; inv = rw append-nil a }
+    go (and_then {vs = vs} {d = d} p i is fs e m f h) = let r = go m in kept_on (Ahead g) (λ zs x k. k.tokens) ts us vs d e r (ahead_move g w lent (look_at vs) (ts ++ r.read) d e r.inv h)

@@ -1,1 +1,2 @@
 // Two rankings merged are the ranking of both; no code.
+#![tactic(auto)]

@@ -7,7 +7,7 @@ use Rattle.meaning.specs.Grammar.{Grammar, Production}
 use Rattle.meaning.specs.Rules.{WellFormed}
 use Rattle.meaning.specs.Table.{State, well_formed, grammar_of}
 use Rattle.meaning.specs.Layout.{LaidOut, Bytes}
-use Rattle.meaning.specs.Judgement.{Accepted, accepted}
+use Rattle.meaning.specs.Judgement.{Accepted}
 use Rattle.meaning.specs.Calls.{Record, Stacks, Called, refused, table_refused, closed_record, as_brought, open_of}
 use Rattle.meaning.specs.PublicCalls.{Checked, usable, unusable, check, area_length, written, Call, call_of, Effect, effect, called, opens, performs}
 use Rattle.theory_base.specs.Members.{T→true}

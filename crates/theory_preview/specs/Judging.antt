@@ -4,7 +4,7 @@ use Rattle.std.proofs.Common.{ap, ap₂, ◌∙◌, lt-ltb}
 use Rattle.meaning.specs.Grammar.{Grammar}
 use Rattle.meaning.specs.Table.{grammar_of}
 use Rattle.meaning.specs.Judgement.{rejected, Accepted}
-use Rattle.meaning.specs.Calls.{inner, Gate, admitted, turned_back, gate, is_open, Record, Stacks, Called, Answer, refused, table_refused, as_brought, stacks_fit}
+use Rattle.meaning.specs.Calls.{Gate, admitted, turned_back, gate, is_open, Record, Stacks, Called, Answer, refused, table_refused, as_brought, stacks_fit}
 use Rattle.meaning.specs.Fit.{Fit}
 use Rattle.meaning.specs.PublicCalls.{Checked, usable, unusable, check, area_length, written, effect, called}
 use Rattle.meaning_statements.specs.CallStatements.{Met, Case, short, bad_table, is_closed, is_waiting, is_inner, unfit, uneven, met}

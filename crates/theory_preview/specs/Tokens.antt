@@ -1,5 +1,5 @@
 -- The set of tokens: what is in it, and how it grows token by token.
-use Rattle.std.specs.Prelude.{ℕ, ◌+◌, ◌<◌, ◌≡◌, refl, ◌⊎◌, Bool, true, false, ◌&&◌, map, List, [], ◌∷◌, length, set, T, ltb}
+use Rattle.std.specs.Prelude.{ℕ, ◌+◌, ◌<◌, ◌≡◌, refl, ◌⊎◌, Bool, true, false, ◌&&◌, map, List, [], ◌∷◌, length, T, ltb}
 use Rattle.std.proofs.Common.{arith, sym, ap, ◌∙◌, subst, ap₂, inl, inr, ltb→lt, lt→ltb}
 use Rattle.std.proofs.Math.Decide.{dec_lt}
 use Rattle.std.proofs.lemmas.List.{length-map}

@@ -24,15 +24,15 @@ rules_same : {ws : List ℕ} {a : ℕ} (rs qs : List (Rule ℕ)) → length rs �
 rules_same [] [] l h k s t = refl
 rules_same [] (q ∷ qs) l h k s t = absurd (omega arith)
 rules_same (r ∷ rs) [] l h k s t = absurd (omega arith)
-rules_same (r ∷ rs) (q ∷ qs) l h k s t =
-    ap₂ (λ x xs. x ∷ xs) (sym (rule_at s (h r (inl refl))) ∙ rule_at t (k q (inl refl))) (rules_same rs qs (omega arith) (λ x i. h x (inr i)) (λ x i. k x (inr i)) (rule_first_lem s).2 (rule_first_lem t).2)
+rules_same {a = a} (r ∷ rs) (q ∷ qs) l h k s t =
+    ap₂ (λ x xs. x ∷ xs) (sym (rule_at s (h r (inl refl))) ∙ rule_at t (k q (inl refl))) (rules_same {a = a + 2} rs qs (omega arith) (λ x i. h x (inr i)) (λ x i. k x (inr i)) (rule_first_lem s).2 (rule_first_lem t).2)
 
 conditions_same : {ws : List ℕ} {a : ℕ} (cs ds : List (Condition ℕ)) → length cs ≡ length ds → ((c : Condition ℕ) → In c cs → ProperCondition c) → ((d : Condition ℕ) → In d ds → ProperCondition d) → ConditionsAt ws a cs → ConditionsAt ws a ds → cs ≡ ds
 conditions_same [] [] l h k s t = refl
 conditions_same [] (d ∷ ds) l h k s t = absurd (omega arith)
 conditions_same (c ∷ cs) [] l h k s t = absurd (omega arith)
-conditions_same (c ∷ cs) (d ∷ ds) l h k s t =
-    ap₂ (λ x xs. x ∷ xs) (sym (condition_at s (h c (inl refl))) ∙ condition_at t (k d (inl refl))) (conditions_same cs ds (omega arith) (λ x i. h x (inr i)) (λ x i. k x (inr i)) (condition_first_lem s).3 (condition_first_lem t).3)
+conditions_same {a = a} (c ∷ cs) (d ∷ ds) l h k s t =
+    ap₂ (λ x xs. x ∷ xs) (sym (condition_at s (h c (inl refl))) ∙ condition_at t (k d (inl refl))) (conditions_same {a = a + 3} cs ds (omega arith) (λ x i. h x (inr i)) (λ x i. k x (inr i)) (condition_first_lem s).3 (condition_first_lem t).3)
 
 -- ---- instructions that stand at one address
 
@@ -72,7 +72,7 @@ code_same g h (and_then i l e) (last n) p q s t = absurd (omega (arith, ap opera
 code_same {ws} {a} g h (and_then i l e) (and_then j {is = js} m f) p q s t =
     let x = first_same g h i j (p i (inl refl)) (q j (inl refl)) s t in
     let u : CodeAt ws (a + length (instruction_words i)) js = subst (λ k. CodeAt ws (a + length (instruction_words k)) js) (sym x) (code_next t) in
-    ap₂ (λ y ys. y ∷ ys) x (code_same g h e f (λ k o. p k (inr o)) (λ k o. q k (inr o)) (code_next s) u)
+    ap₂ (λ y ys. y ∷ ys) x (code_same {a = a + length (instruction_words i)} g h e f (λ k o. p k (inr o)) (λ k o. q k (inr o)) (code_next s) u)
 
 -- ---- schemes end so
 

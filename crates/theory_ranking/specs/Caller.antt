@@ -2,7 +2,7 @@
 use Rattle.std.specs.Prelude.{ℕ, suc, ◌+◌, ◌≡◌, true, List, [], ◌∷◌, ◌++◌, length, ℤ, pos}
 use Rattle.std.proofs.Common.{arith, sym, ap, subst, ◌∙◌}
 use Rattle.meaning.specs.Value.{in_range}
-use Rattle.meaning_ranking.specs.Ranking.{RankEntry, number, value, valued, total_of, valued_of}
+use Rattle.meaning_ranking.specs.Ranking.{RankEntry, number, value, total_of, valued_of}
 use Rattle.theory_ranking.specs.Entries.{Ranged, entries_of}
 use Rattle.theory_ranking.specs.Sorting.{ranking_ranks}
 use Rattle.theory_ranking.specs.Listing.{Listed, listed_entries}

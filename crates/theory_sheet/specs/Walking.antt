@@ -18,7 +18,7 @@ use Rattle.theory_base.specs.Steps.{move_of, Result, result}
 use Rattle.theory_answers.specs.Bounds.{look_free, length_parent}
 use Rattle.theory_sound.specs.MovesKeepPart.{node_of, part_of, with_child, waiting_at}
 use Rattle.theory_sound.specs.Return.{under, left_on}
-use Rattle.theory_sheet.specs.Whole.{WhatNext, goes, fails, done, as_next, turn, turn_if, token_if, end_if, judged, run_from, Failing, run_fails, run_goes, run_done}
+use Rattle.theory_sheet.specs.Whole.{WhatNext, as_next, turn, turn_if, token_if, end_if, judged, run_from, Failing, run_fails, run_goes, run_done}
 use Rattle.theory_sheet.specs.NodeInProgress.{Stand, stand_step, stand_ready, stays, read, predicted, removed_node}
 
 -- the moves inside a node that need no next token

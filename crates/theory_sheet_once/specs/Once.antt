@@ -3,7 +3,7 @@ use Rattle.std.specs.Prelude.{◌≡◌, refl, Bool, true, false, length, eqb}
 use Rattle.std.proofs.Common.{sym, ap, ◌∙◌}
 use Rattle.meaning.specs.Grammar.{Grammar, leaves}
 use Rattle.meaning.specs.Table.{grammar_of}
-use Rattle.meaning.specs.Judgement.{accepted, Accepted}
+use Rattle.meaning.specs.Judgement.{Accepted}
 use Rattle.meaning.specs.Calls.{Answer, more, value, refused, table_refused, tokens_from}
 use Rattle.meaning.specs.PublicCalls.{Checked, usable, unusable, check}
 use Rattle.meaning_sheet.specs.Sheet.{sheet_of}

@@ -1,1 +1,2 @@
 // 02 (i): whatever is brought, there is only one effect; no code.
+#![tactic(auto)]

@@ -68,12 +68,18 @@ on g f lent base m ok d e w h l = go v.reading
 
 -- the tokens still to come are as the grammar sees them
 above_leaves : (g : Grammar) (lent : Lent) (n : ℕ) (us vs : List Leaf) (d e : Config) → T (all (is_leaf_of g) us) → Above g lent n us d vs e → T (all (is_leaf_of g) vs)
-above_leaves g lent n us vs d e t nothing = t
-above_leaves g lent n us vs d e t (and_then {vs = ws} {d = a} b k h l) = all_drop g (b.tokens - a.tokens) ws (above_leaves g lent n us ws d a t k)
+above_leaves g lent n us vs d e t k = go k
+  where
+    go : {vs : List Leaf} {e : Config} → Above g lent n us d vs e → T (all (is_leaf_of g) vs)
+    go nothing = t
+    go (and_then {vs = ws} {d = a} b k h l) = all_drop g (b.tokens - a.tokens) ws (go k)
 
 nested_within : (g : Grammar) → WellFormed g → (lent : Lent) (base : List Ancestor) (us vs : List Leaf) → T (all (is_leaf_of g) us) → (d e : Config) → Within g base d → Above g lent (length base) us d vs e → Within g base e
-nested_within g f lent base us vs t d e w nothing = w
-nested_within g f lent base us vs t d e w (and_then {vs = ws} {d = a} b k h l) = on g f lent base (look_at ws) (is_ahead g ws (above_leaves g lent (length base) us ws d a t k)) a b (nested_within g f lent base us ws t d a w k) h l
+nested_within g f lent base us vs t d e w k = go k
+  where
+    go : {vs : List Leaf} {e : Config} → Above g lent (length base) us d vs e → Within g base e
+    go nothing = w
+    go (and_then {vs = ws} {d = a} b k h l) = on g f lent base (look_at ws) (is_ahead g ws (above_leaves g lent (length base) us ws d a t k)) a b (go k) h l
 
 -- ---- entered and left
 

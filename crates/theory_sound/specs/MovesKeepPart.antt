@@ -4,7 +4,7 @@ use Rattle.std.proofs.Common.{arith, sym, ap, ◌∙◌, subst, inl, inr, append
 use Rattle.meaning.specs.Base.{is_empty}
 use Rattle.theory_answers.specs.ShapeMoves.{IsAhead}
 use Rattle.meaning.specs.Grammar.{Symbol, terminal, nonterminal, Production, Grammar, inh, syn, added_for, production_at, whole, Leaf}
-use Rattle.meaning.specs.Scheme.{remove, removed, inherited_rules, synthesized_rules, tests_after, scheme_end, scheme}
+use Rattle.meaning.specs.Scheme.{remove, removed, inherited_rules, synthesized_rules, tests_after, scheme_end}
 use Rattle.meaning.specs.Machine.{Config, Lent, moved, next, Coming, comes}
 use Rattle.meaning.specs.Tree.{Tree, leaf, node, no_trees, yield, synthesized_of, WellEvaluated}
 use Rattle.theory_base.specs.MoveCounts.{one_if}

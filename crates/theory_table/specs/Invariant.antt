@@ -208,7 +208,7 @@ all_complete s v t e i = go s.entries t (λ a j. v.completes a j) i
   where
     go : (es : List Entry) → T (elim es as (λ x. Bool) [ [] ↦ true | a ∷ bs ↦ complete s a ]) → ((a : Entry) → In a (drop 1 es) → T (complete s a)) → In e es → T (complete s e)
     go [] t h i = absurd i
-    go (a ∷ es) t h (inl p) = rw p t
+    go (a ∷ es) t h (inl p) = subst (λ x. T (complete s x)) (sym p) t
     go (a ∷ es) t h (inr j) = h e j
 
 no_header_lem : (h : Option Header) → T (not (is_some h)) → ◌≡◌ {A = ℕ} (elim h as (λ x. Header) [ none ↦ no_header | some y ↦ y ]).nonterminals 0
