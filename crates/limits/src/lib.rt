@@ -1,4 +1,5 @@
 // The limits and fixed numbers of document 01 that the code names, each in this one place. Those of values stand in `value`.
+#![tactic(auto)]
 
 // ---- a table
 

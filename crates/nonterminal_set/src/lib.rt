@@ -1,10 +1,12 @@
 // A set of nonterminals: a word whose bit n is nonterminal n. Bit 63 is no nonterminal's; in a set of symbols it stands for the tokens.
+#![tactic(auto)]
+
 ghost use Rattle.std.specs.Prelude.{◌≡◌, ◌<◌, eqb};
 ghost use Rattle.std.specs.Int.Bits.{bit_or};
 ghost use Rattle.meaning.specs.Sets.{◌∪◌, empty_set, has, singleton, end_number};
 ghost use Rattle.token_set.specs.SetBits.{set_of};
 
-#[derive(Drop)]
+#[derive(Clone, Copy)]
 pub struct NonterminalSet(pub u64);
 
 impl NonterminalSet {

@@ -1,4 +1,6 @@
 // The numbers of the operations in the program's words (docs/PROGRAM.md), each in this one place.
+#![tactic(auto)]
+
 pub const ADD: usize = 0;
 
 pub const EVALUATE: usize = 1;

@@ -7,7 +7,7 @@ use Rattle.std.proofs.Math.Path.{ap}
 use Rattle.std.proofs.Math.ListN.{length-map, get_or-map}
 use Rattle.std.proofs.Math.Seq.{get_or-drop}
 use Rattle.meaning.specs.Limits.{nonterminals_limit, productions_limit, symbols_limit}
-use Rattle.meaning.specs.Grammar.{Symbol, terminal, nonterminal, Grammar, symbol_at, production_at, nonterminal_count, nonterminal_base}
+use Rattle.meaning.specs.Grammar.{Symbol, terminal, Grammar, symbol_at, production_at, nonterminal_count, nonterminal_base}
 use Rattle.meaning.specs.Table.{byte, symbol_of}
 use Rattle.meaning.specs.Rules.{WellFormed}
 pub use Rattle.theory_table.specs.Numbers.{symbol_terminal, symbol_nonterminal}

@@ -1,5 +1,7 @@
 // The outline of a table that is read whole. It is lent as arrays, one by one: for each nonterminal its counts of attributes, for each
 // production a row of 16 bytes and the offset of its field. Beside them go the numbers of the table.
+#![tactic(auto)]
+
 ghost use Rattle.std.specs.Prelude.{◌≤◌, ◌<◌, ◌≡◌};
 ghost use Rattle.meaning.specs.Limits.{productions_limit};
 ghost use Rattle.outline.specs.Counts.{count_at_value, synthesized_at};
@@ -8,7 +10,7 @@ ghost use Rattle.outline.specs.Images.{HasRow, row_count, row_start, row_at, lef
 use token_set::TokenSet;
 
 // The numbers of a table that is well formed.
-#[derive(Drop)]
+#[derive(Clone, Copy)]
 pub struct Sizes {
     pub terminals: usize,
     pub nonterminals: usize,

@@ -1,10 +1,9 @@
 -- A word that grows, production by production, until nothing changes. C is what makes a view closed; P is what a step that changes nothing shows.
-use Rattle.std.specs.Prelude.{ℕ, ◌+◌, ◌≤◌, ◌<◌, ◌≡◌, refl, ◌⊎◌, Bool, false, ◌||◌, List, get_or, length, set, T}
+use Rattle.std.specs.Prelude.{ℕ, ◌+◌, ◌≤◌, ◌<◌, ◌≡◌, ◌⊎◌, Bool, false, ◌||◌, List, get_or, length, set, T}
 use Rattle.std.proofs.Common.{le_refl, arith, sym, ◌∙◌, subst, ⊎_elim, length-set, get_or-set_same, get_or-set_other}
 use Rattle.std.proofs.Math.Decide.{ℕ_discrete}
 use Rattle.std.specs.Int.Bits.{bit_or}
 use Rattle.meaning.specs.Limits.{productions_limit}
-use Rattle.meaning.specs.Sets.{has}
 use Rattle.theory_sets.specs.TokenSets.{has_union, has_empty, union_left, union_right, union_cases}
 use Rattle.token_set.specs.SetBits.{set_of, set_empty, set_or, or_grows}
 use Rattle.set_words.specs.Views.{members, Inside}

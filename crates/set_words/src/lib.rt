@@ -1,4 +1,6 @@
 // Sets of nonterminals as words. The symbols on the right of a production are one word: its nonterminals, and the bit of the tokens where it has one. Here: the word of one symbol.
+#![tactic(auto)]
+
 ghost use Rattle.std.specs.Prelude.{◌≡◌, ℕ, ◌<◌};
 ghost use Rattle.meaning.specs.Table.{symbol_of};
 ghost use Rattle.set_words.specs.Views.{members, symbol_bit};

@@ -1,4 +1,6 @@
 // The tag 6 fields: the terminals that carry a value.
+#![tactic(auto)]
+
 ghost use Rattle.std.specs.Prelude.{◌≡◌, true, false, ◌+◌, ◌<◌, ◌≤◌, length};
 ghost use Rattle.meaning.specs.Limits.{terminals_limit};
 ghost use Rattle.meaning.specs.Table.{byte};
@@ -7,7 +9,7 @@ ghost use Rattle.table_carriers.specs.Named.{CarrierJudged, CarriersRead, NoCarr
 use token_set::TokenSet;
 
 // The end of the tag 6 fields (number 0) and the set of the terminals that they name, or the field that is refused.
-#[derive(Drop)]
+#[derive(Clone, Copy)]
 pub struct Carried {
     pub number: u8,
     pub at: usize,

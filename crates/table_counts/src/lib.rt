@@ -1,4 +1,6 @@
 // The tag 1 field and the tag 2 fields: the header and the counts of a table.
+#![tactic(auto)]
+
 ghost use Rattle.std.specs.Prelude.{◌≡◌, ◌≤◌, length};
 ghost use Rattle.meaning.specs.Limits.{nonterminals_limit};
 ghost use Rattle.meaning.specs.Table.{byte};
@@ -7,7 +9,7 @@ ghost use Rattle.table_counts.specs.Counted.{CountsJudged, CountsRead, HeaderJud
 use limits::NONTERMINALS;
 
 // A refusal by its number and offset; 0 for none.
-#[derive(Drop)]
+#[derive(Clone, Copy)]
 pub struct Refusal {
     pub number: u8,
     pub offset: usize,

@@ -1,4 +1,6 @@
 // The faults of tags 1, 2 and 6: header, counts, and terminals that carry a value.
+#![tactic(auto)]
+
 ghost use Rattle.std.specs.Prelude.{◌≡◌};
 ghost use Rattle.table_fields.specs.Judge.{header_fault, counts_fault, carrier_fault};
 

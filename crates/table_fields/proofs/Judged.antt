@@ -11,7 +11,7 @@ use Rattle.meaning.specs.Limits.{attributes_limit, nonterminals_limit, productio
 use Rattle.meaning.specs.Base.{all}
 use Rattle.meaning.specs.Grammar.{Counts, terminal, nonterminal, nonterminal_base}
 use Rattle.meaning.specs.Table as Table
-use Rattle.meaning.specs.Table.{byte, State, Entry, Header, Kind, header, counts, production, Stage, at_counts, at_first, at_any, stage, tag_stands, kind_of, lowest_of, judge_field, nothing_read, limits_hold, known, start_right, directions_right, set_once, left_to_right, bounds_right, symbol_of, rises}
+use Rattle.meaning.specs.Table.{byte, State, Entry, Header, Kind, production, Stage, at_counts, at_first, at_any, stage, tag_stands, kind_of, lowest_of, judge_field, nothing_read, limits_hold, known, start_right, directions_right, set_once, left_to_right, bounds_right, symbol_of, rises}
 use Rattle.table_fields.specs.Demand.{holds, equal, at_most, below, if_equal, if_below}
 use Rattle.table_fields.specs.Judge.{header_fault, counts_fault, production_fault, least_after, carrier_fault, symbol_known, symbols_known, all_from}
 use Rattle.table_fields.specs.Reads.{state_of}

@@ -1,4 +1,6 @@
 // The fields of a table, and the faults of tag 3. The definitions of all faults of tags 1 to 3 and 6 are here.
+#![tactic(auto)]
+
 ghost use Rattle.std.specs.Prelude.{◌≡◌, ◌+◌, ◌<◌, ◌≤◌, length};
 ghost use Rattle.table_fields.specs.Field.{Whole, Short};
 ghost use Rattle.table_fields.specs.Judge.{head_fault};

@@ -1,4 +1,6 @@
 // The tag 4 and tag 5 fields of one production, with the note of the occurrences set.
+#![tactic(auto)]
+
 ghost use Rattle.std.specs.Prelude.{◌≡◌, true, false, ◌+◌, ◌<◌, ◌≤◌, length};
 ghost use Rattle.meaning.specs.Table.{byte};
 ghost use Rattle.table_rules.specs.Rule.{Small};
@@ -9,7 +11,7 @@ use table_rule_fields::conditions::condition_fault;
 use table_rule_fields::take_rule;
 
 // Where the rules and conditions of a table that were read end, and how many they are (number 0); or the field that is refused.
-#[derive(Drop)]
+#[derive(Clone, Copy)]
 pub struct Items {
     pub number: u8,
     pub at: usize,

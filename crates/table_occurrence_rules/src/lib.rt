@@ -1,4 +1,6 @@
 // A rule with nothing wrong with it, told by a look at the bit of each of its occurrences.
+#![tactic(auto)]
+
 ghost use Rattle.std.specs.Prelude.{◌≡◌, true, false, List, ℕ, ◌+◌, ◌*◌, ◌<◌, ◌≤◌, length};
 ghost use Rattle.meaning.specs.Limits.{positions_limit};
 ghost use Rattle.meaning.specs.Table.{byte};

@@ -1,5 +1,7 @@
 // The right side of a production walked once: its row, the word of its symbols, and at each position the word of the inputs and that of all but
 // the outputs.
+#![tactic(auto)]
+
 ghost use Rattle.std.specs.Prelude.{◌≡◌, true, false, List, ℕ, ◌+◌, ◌-◌, ◌<◌, ◌≤◌, length, set, replicate};
 ghost use Rattle.outline.specs.Images.{rows_length};
 ghost use Rattle.meaning.specs.Grammar.{nonterminal_base};
@@ -17,7 +19,7 @@ use set_words::symbol_bit;
 use token_set::TokenSet;
 
 // A symbol on the right, whether it is known, its bit, and the words at its position: the inputs, and all but the outputs.
-#[derive(Drop)]
+#[derive(Clone, Copy)]
 pub struct Found {
     pub symbol: usize,
     pub known: bool,
@@ -27,7 +29,7 @@ pub struct Found {
 }
 
 // What a walk along a right side tells: whether its symbols are known, and the word of them.
-#[derive(Drop)]
+#[derive(Clone, Copy)]
 pub struct Right {
     pub known: bool,
     pub word: NonterminalSet,
@@ -130,8 +132,8 @@ fn place_left(
     inputs: &mut [u16; POSITIONS],
     settled: &mut [u16; POSITIONS],
 )
-    requires { (1 ≤ length body.now) × (inputs.old ≡ replicate positionsLimit 0) × (settled.old ≡ replicate positionsLimit 65535)
-        × (countAt inherited.now (nonterminalBase + byte body.now 0) + countAt synthesized.now (nonterminalBase + byte body.now 0) ≤ attributesLimit) }
+    requires { (1 ≤ length body.now) × (inputs.old ≡ replicate positions_limit 0) × (settled.old ≡ replicate positions_limit 65535)
+        × (count_at_value inherited.now (nonterminal_base + byte body.now 0) + count_at_value synthesized.now (nonterminal_base + byte body.now 0) ≤ attributes_limit) }
     ensures inputs { (carrying : ℕ) → Filled (input_at carrying inherited.now synthesized.now body.now) 0 0 inputs.new }
     ensures others { (carrying : ℕ) → Filled (other_at carrying inherited.now synthesized.now body.now) 0 65535 settled.new }
 {
@@ -169,8 +171,8 @@ fn place_right(
     inputs: &mut [u16; POSITIONS],
     settled: &mut [u16; POSITIONS],
 ) -> Right
-    requires { (p < productionsLimit) × (2 ≤ length body.now) × (length body.now ≤ 14) × (length rows.old ≡ rowsLength) × KnownSmall sizes.terminals sizes.nonterminals sizes.carrying.0 inherited.now synthesized.now
-        × Filled (input_at sizes.carrying.0 inherited.now synthesized.now body.now) 0 0 inputs.old × Filled (otherAt sizes.carrying.0 inherited.now synthesized.now body.now) 0 65535 settled.old }
+    requires { (p < productions_limit) × (2 ≤ length body.now) × (length body.now ≤ 14) × (length rows.old ≡ rows_length) × KnownSmall sizes.terminals sizes.nonterminals sizes.carrying.0 inherited.now synthesized.now
+        × Filled (input_at sizes.carrying.0 inherited.now synthesized.now body.now) 0 0 inputs.old × Filled (other_at sizes.carrying.0 inherited.now synthesized.now body.now) 0 65535 settled.old }
     ensures { RightPlaced rows.old p body.now sizes.terminals sizes.nonterminals sizes.carrying.0 inherited.now synthesized.now rows.new inputs.new settled.new result.known result.word.0 }
 {
     let start = outline::row_start(p);
@@ -209,8 +211,8 @@ pub fn read_right(
     inputs: &mut [u16; POSITIONS],
     settled: &mut [u16; POSITIONS],
 ) -> Right
-    requires { (p < productionsLimit) × (2 ≤ length body.now) × (length body.now ≤ 14) × (length rows.old ≡ rowsLength) × KnownSmall sizes.terminals sizes.nonterminals sizes.carrying.0 inherited.now synthesized.now
-        × (inputs.old ≡ replicate positionsLimit 0) × (settled.old ≡ replicate positionsLimit 65535) × (countAt inherited.now (nonterminalBase + byte body.now 0) + countAt synthesized.now (nonterminalBase + byte body.now 0) ≤ attributesLimit) }
+    requires { (p < productions_limit) × (2 ≤ length body.now) × (length body.now ≤ 14) × (length rows.old ≡ rows_length) × KnownSmall sizes.terminals sizes.nonterminals sizes.carrying.0 inherited.now synthesized.now
+        × (inputs.old ≡ replicate positions_limit 0) × (settled.old ≡ replicate positions_limit 65535) × (count_at_value inherited.now (nonterminal_base + byte body.now 0) + count_at_value synthesized.now (nonterminal_base + byte body.now 0) ≤ attributes_limit) }
     ensures { RightPlaced rows.old p body.now sizes.terminals sizes.nonterminals sizes.carrying.0 inherited.now synthesized.now rows.new inputs.new settled.new result.known result.word.0 }
 {
     place_left(body, inherited, synthesized, inputs, settled);

@@ -1,5 +1,7 @@
 // Occurrences of attributes as bits: bit a of the word at a position stands for attribute a there. One word has the inputs at a position, another
 // all but the outputs without a rule. Here: the word of a range of attributes, and the note of a production made again from its words.
+#![tactic(auto)]
+
 ghost use Rattle.std.specs.Prelude.{◌≡◌, ◌+◌, ◌/◌, ◌<◌, ◌≤◌};
 ghost use Rattle.std.specs.Int.Bits.{bit_and};
 ghost use Rattle.meaning.specs.Limits.{attributes_limit};

@@ -1,4 +1,6 @@
 // The field of a production, with its rules and conditions.
+#![tactic(auto)]
+
 ghost use Rattle.std.specs.Prelude.{◌≡◌, ℕ, ◌+◌, ◌<◌, ◌≤◌, length, replicate};
 ghost use Rattle.outline.specs.Images.{rows_length};
 ghost use Rattle.meaning.specs.Limits.{table_limit, nonterminals_limit, positions_limit, productions_limit};
@@ -47,7 +49,7 @@ fn judge_body(
     sound: Items,
 ) -> Items
     requires { (at + 5 + width_in table.now at ≤ sound.at) × SmallBody table.now at carrying.0 inherited.now synthesized.now
-        × (length inherited.now ≡ nonterminalsLimit) × (length synthesized.now ≡ nonterminalsLimit) × (sound.at ≤ length table.now) × (sound.rules ≤ sound.at) × (sound.conditions ≤ sound.at) }
+        × (length inherited.now ≡ nonterminals_limit) × (length synthesized.now ≡ nonterminals_limit) × (sound.at ≤ length table.now) × (sound.rules ≤ sound.at) × (sound.conditions ≤ sound.at) }
     ensures read { (p q : ℕ) → BodyTaken table.now at carrying.0 inherited.now synthesized.now p q settled.now sound.at sound.rules sound.conditions
         → BodyRead table.now at carrying.0 inherited.now synthesized.now p q result }
     ensures next { result.number ≡ 0 → Next table.now (at + 5) result }
@@ -76,7 +78,7 @@ fn read_body(
     settled: &mut [u16; POSITIONS],
 ) -> Items
     requires { (before.at + 5 + width_in table.now before.at ≤ length table.now) × SmallBody table.now before.at carrying.0 inherited.now synthesized.now
-        × (length inherited.now ≡ nonterminalsLimit) × (length synthesized.now ≡ nonterminalsLimit) × (before.rules ≤ before.at) × (before.conditions ≤ before.at)
+        × (length inherited.now ≡ nonterminals_limit) × (length synthesized.now ≡ nonterminals_limit) × (before.rules ≤ before.at) × (before.conditions ≤ before.at)
         × WordsPlaced table.now before.at carrying.0 inherited.now synthesized.now inputs.now settled.old }
     ensures read { BodyRead table.now before.at carrying.0 inherited.now synthesized.now before.rules before.conditions result }
     ensures next { result.number ≡ 0 → Next table.now (before.at + 5) result }
@@ -106,7 +108,7 @@ fn read_body(
 }
 
 // What is read of the field of a production: the number of its refusal, or 0, and the word of its right side.
-#[derive(Drop)]
+#[derive(Clone, Copy)]
 struct Field {
     number: u8,
     word: NonterminalSet,
@@ -125,7 +127,7 @@ fn read_field(
     settled: &mut [u16; POSITIONS],
 ) -> Field
     requires { (at < length table.now) × (0 < p → byte table.now at ≡ 3) × (byte table.now at ≡ 6 → ⊥) × SmallCounts inherited.now synthesized.now sizes.nonterminals
-        × (sizes.nonterminals ≤ nonterminalsLimit) × (length rows.old ≡ rowsLength) × (inputs.old ≡ replicate positionsLimit 0) × (settled.old ≡ replicate positionsLimit 65535) }
+        × (sizes.nonterminals ≤ nonterminals_limit) × (length rows.old ≡ rows_length) × (inputs.old ≡ replicate positions_limit 0) × (settled.old ≡ replicate positions_limit 65535) }
     ensures { FieldRead table.now at p sizes.terminals sizes.nonterminals sizes.carrying.0 inherited.now synthesized.now
         rows.old rows.new inputs.new settled.new result.number result.word.0 }
 {
@@ -169,10 +171,10 @@ pub fn read_production(
     offsets: &mut [u32; PRODUCTIONS],
     words: &mut [u64; PRODUCTIONS],
 ) -> Items
-    requires { (before.at < length table.now) × (length table.now ≤ tableLimit) × (0 < p → byte table.now before.at ≡ 3) × (byte table.now before.at ≡ 6 → ⊥)
-        × SmallCounts inh.now syn.now sizes.nonterminals × (length inh.now ≡ nonterminalsLimit) × (length syn.now ≡ nonterminalsLimit)
-        × (length rows.old ≡ rowsLength) × (length offsets.old ≡ productionsLimit) × (before.rules ≤ before.at) × (before.conditions ≤ before.at) × (length words.old ≡ productionsLimit)
-        × (sizes.nonterminals ≤ nonterminalsLimit) }
+    requires { (before.at < length table.now) × (length table.now ≤ table_limit) × (0 < p → byte table.now before.at ≡ 3) × (byte table.now before.at ≡ 6 → ⊥)
+        × SmallCounts inh.now syn.now sizes.nonterminals × (length inh.now ≡ nonterminals_limit) × (length syn.now ≡ nonterminals_limit)
+        × (length rows.old ≡ rows_length) × (length offsets.old ≡ productions_limit) × (before.rules ≤ before.at) × (before.conditions ≤ before.at) × (length words.old ≡ productions_limit)
+        × (sizes.nonterminals ≤ nonterminals_limit) }
     ensures read { ProductionRead table.now before.at p sizes.terminals sizes.nonterminals sizes.carrying.0 inh.now syn.now
         rows.old offsets.old before.rules before.conditions rows.new offsets.new result }
     ensures kept { length words.new ≡ productions_limit }

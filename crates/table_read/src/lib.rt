@@ -1,4 +1,6 @@
 // The reader of a table: refusals 1 to 10, or an outline of what was read.
+#![tactic(auto)]
+
 ghost use Rattle.std.specs.Prelude.{◌≡◌, ◌+◌, ◌*◌, ◌≤◌, length};
 ghost use Rattle.outline.specs.Images.{rows_length};
 ghost use Rattle.meaning.specs.Limits.{table_limit, nonterminals_limit, productions_limit};

@@ -1,16 +1,18 @@
 // The reader of a table's fields: the table and its own position. Its functions only take it apart and hand slice and position on.
+#![tactic(auto)]
+
 ghost use Rattle.std.specs.Prelude.{◌≡◌, suc};
 ghost use Rattle.table_reader.specs.Fields.{past, nth_production};
 
 // 01: "A small reader that keeps the table and its own position walks the fields."
-#[derive(Drop)]
+#[derive(Clone, Copy)]
 pub struct Reader<'a> {
     table: &'a [u8],
     at: usize,
 }
 
 // From one offset to another.
-#[derive(Drop)]
+#[derive(Clone, Copy)]
 pub struct Stretch {
     pub from: usize,
     pub to: usize,

@@ -1,4 +1,6 @@
 // The counts at the positions of a production. What is written of its row is told here too.
+#![tactic(auto)]
+
 ghost use Rattle.std.specs.Prelude.{◌≡◌, ◌≤◌, length};
 ghost use Rattle.meaning.specs.Limits.{nonterminals_limit, positions_limit};
 ghost use Rattle.outline.specs.Counts.{count_at_value, synthesized_at};

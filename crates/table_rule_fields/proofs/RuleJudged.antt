@@ -12,7 +12,7 @@ use borrow.Author.Tests.{leb-true, leb-false, le-ltb, lt-ltb, eqb-false, ne_eqb}
 use Rattle.meaning.specs.Limits.{rules_limit, attributes_limit, divisor_limit}
 use Rattle.meaning.specs.Base.{all}
 use Rattle.meaning.specs.Grammar.{Symbol, Occurrence, Function, const, functions_of, Rule, Condition, Counts}
-use Rattle.meaning.specs.Table.{byte, constant_at, State, Entry, Header, rule, occurrence_at, occurrence_known, is_input, has_rule, function_of, operands, rule_length, lowest_of, judge_field, tag_stands, stage, at_any}
+use Rattle.meaning.specs.Table.{byte, constant_at, State, Entry, Header, occurrence_at, occurrence_known, is_input, has_rule, function_of, operands, rule_length, lowest_of, judge_field, tag_stands, stage, at_any}
 use Rattle.table_fields.specs.Demand.{if_equal, if_below, below, lacks, holds, equal, at_most}
 use Rattle.table_fields.proofs.Rest.{field_of}
 use Rattle.table_fields.proofs.Judged.{judge_stands}

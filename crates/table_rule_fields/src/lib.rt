@@ -1,4 +1,6 @@
 // The faults of a rule, and the field of a rule taken: its occurrence is noted as it is set.
+#![tactic(auto)]
+
 ghost use Rattle.std.specs.Prelude.{◌≡◌, true, List, ℕ, ◌+◌, ◌*◌, ◌<◌, ◌≤◌, length};
 ghost use Rattle.meaning.specs.Limits.{positions_limit, symbols_limit};
 ghost use Rattle.meaning.specs.Grammar.{Rule, Occurrence};

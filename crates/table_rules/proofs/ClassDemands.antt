@@ -9,7 +9,7 @@ use lib.ListN.{get_or, length}
 use borrow.Author.Tests.{leb-true, leb-false, le-leb, lt-leb, le-ltb, lt-ltb}
 use Rattle.meaning.specs.Grammar.{Symbol, Occurrence, Rule, Condition, Counts, counts_in}
 use Rattle.meaning.specs.Table.{State, Entry, Header, entry_symbol, counts_at, occurrence_known, is_input, lowest_of}
-use Rattle.table_fields.specs.Demand.{if_equal, if_below, differs, below}
+use Rattle.table_fields.specs.Demand.{if_equal, if_below, differs}
 use Rattle.table_fields.specs.Reads.{state_of, entry_of}
 use Rattle.table_rules.specs.Rule.{class_at, class_fault, or_else}
 use Rattle.table_rules.specs.Note.{symbol_in, Placed, occurrence}

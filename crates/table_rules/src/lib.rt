@@ -1,5 +1,7 @@
 // Occurrences of attributes in a production, judged by the counts at its positions, and the note of those that have a rule. Beside them the
 // definitions by which rules and conditions are judged.
+#![tactic(auto)]
+
 ghost use Rattle.std.specs.Prelude.{◌≡◌, ◌+◌, ◌-◌, ◌<◌, ◌≤◌, length, get_or};
 ghost use Rattle.meaning.specs.Limits.{attributes_limit, positions_limit, symbols_limit};
 ghost use Rattle.table_rules.specs.Rule.{class_at, class_in, four_at, bit};

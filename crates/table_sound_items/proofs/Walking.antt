@@ -7,7 +7,6 @@ use native.Mathlib.Omega.{arith}
 use native.Mathlib.Decide.{ℕ_discrete}
 use lib.ListN.{get_or, length, replicate, take, drop}
 use Rattle.meaning.specs.Limits.{positions_limit}
-use Rattle.meaning.specs.Base.{all}
 use Rattle.meaning.specs.Table.{byte}
 use Rattle.table_fields.specs.Field.{body_at}
 use Rattle.table_fields.proofs.Demands.{equal_yes, equal_no}

@@ -1,5 +1,7 @@
 // The rules and conditions of a production that has nothing wrong with it. Most productions are such, so this is asked first; what is wrong with
 // another is told by `table_items`, which goes on at the field where this stops; the words that are settled tell the note of the rules before it.
+#![tactic(auto)]
+
 ghost use Rattle.std.specs.Prelude.{◌≡◌, true, false, ◌+◌, ◌*◌, ◌<◌, ◌≤◌, length};
 ghost use Rattle.meaning.specs.Limits.{positions_limit, symbols_limit};
 ghost use Rattle.meaning.specs.Table.{byte};
@@ -10,7 +12,7 @@ ghost use Rattle.table_sound_items.specs.Sound.{RuleSound, RuleStands, Condition
 use limits::{CONDITIONS, POSITIONS, RULES};
 
 // The end of a production's rules and conditions, where they are sound; else the field that is to be judged.
-#[derive(Drop)]
+#[derive(Clone, Copy)]
 pub struct Sound {
     pub sound: bool,
     pub at: usize,

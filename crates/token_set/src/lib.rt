@@ -1,4 +1,6 @@
 // 01: "A token set has at most 63 tokens and the end of the segment": a word whose bit t is token t, and bit 63 the end.
+#![tactic(auto)]
+
 pub mod word;
 
 ghost use Rattle.std.specs.Prelude.{◌≡◌};
@@ -7,7 +9,7 @@ ghost use Rattle.meaning.specs.Sets.{◌∪◌, empty_set, has, singleton, end_n
 ghost use Rattle.meaning.specs.Decide.{meet};
 ghost use Rattle.token_set.specs.SetBits.{set_of};
 
-#[derive(Drop)]
+#[derive(Clone, Copy)]
 pub struct TokenSet(pub u64);
 
 impl TokenSet {

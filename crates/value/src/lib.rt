@@ -1,3 +1,5 @@
+#![tactic(auto)]
+
 ghost use Rattle.std.specs.Prelude.{◌≡◌, ◌+◌, ◌<◌, ◌≤◌, true, ◌&&◌, length, ◌+ℤ◌, int_le, slice_index};
 ghost use Rattle.meaning.specs.Calls.{is_mark};
 ghost use Rattle.meaning.specs.Table.{byte, signed, constant_at};

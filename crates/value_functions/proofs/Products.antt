@@ -22,7 +22,7 @@ pub near_left : (a b : ℤ) → near a ≡ true → in_range b ≡ true → SFit
 near_left a b p q = fits64 (a *ℤ b) (omega (arith, mul_at_most a b (suc limit) reach (inside a limit (suc limit) (omega arith) p) (in_range_size b q)))
 
 pub near_right : (a b : ℤ) → in_range a ≡ true → near b ≡ true → SFits w64 (a *ℤ b)
-near_right a b p q = rw (*ℤ_comm a b) (near_left b a q p)
+near_right a b p q = rw (*ℤ_comm a b) (fits64 (b *ℤ a) (omega (arith, mul_at_most b a (suc limit) reach (inside b limit (suc limit) (omega arith) q) (in_range_size a p))))
 
 pub both_far : (a b : ℤ) → near a ≡ false → near b ≡ false → in_range (a *ℤ b) ≡ false
 both_far a b p q = large_out (a *ℤ b) (omega (arith, mul_at_least a b (suc (suc limit)) (suc (suc limit)) (outside a limit p) (outside b limit q)))

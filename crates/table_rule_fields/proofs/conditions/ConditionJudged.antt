@@ -11,7 +11,7 @@ use borrow.Author.Tests.{leb-true, leb-false, le-ltb, lt-ltb, eqb-true, eqb-fals
 use Rattle.meaning.specs.Limits.{conditions_limit}
 use Rattle.meaning.specs.Base.{all}
 use Rattle.meaning.specs.Grammar.{Symbol, Occurrence, Rule, Condition, range, atmost, Counts}
-use Rattle.meaning.specs.Table.{byte, constant_at, State, Entry, Header, condition, occurrence_at, offset_of, occurrence_known, is_input, condition_length, reads, lowest_of, judge_field, tag_stands, stage, at_any}
+use Rattle.meaning.specs.Table.{byte, constant_at, State, Entry, Header, occurrence_at, offset_of, occurrence_known, is_input, condition_length, reads, lowest_of, judge_field, tag_stands, stage, at_any}
 use Rattle.table_fields.specs.Demand.{if_equal, differs, below, holds, equal, at_most}
 use Rattle.table_fields.proofs.Rest.{field_of}
 use Rattle.table_fields.proofs.Judged.{judge_stands}
