@@ -10,7 +10,6 @@ use Rattle.meaning.specs.Grammar.{Symbol, terminal, nonterminal, nonterminal_bas
 use Rattle.meaning.specs.Sets.{has, singleton, end_number}
 use Rattle.meaning.specs.Table.{symbol_of}
 use Rattle.token_set.specs.SetBits.{set_of, set_end}
-use Rattle.theory_base.specs.Members.{both}
 use Rattle.theory_sets.specs.TokenSets.{single_has, single_only}
 use Rattle.outline.specs.Images.{Image, left_at, size_at, byte_at, right_at, right_back, right_end, symbol_terminal, symbol_nonterminal}
 use Rattle.set_words.specs.Views.{members, sees, Inside, fit, turn, opens, Below}

@@ -30,7 +30,7 @@ fn close_by(
     requires row { Imaged rows.now k × ((n : ℕ) → members (get_or rights.now k 0) n ≡ right_by rows.now k n) }
     requires sets { Narrow set.0 × Free free.0 }
     ensures { (count : ℕ) → Image rows.now count → k < count
-        → Grown (Within (ClosedAt (tokensIn free.0) rows.now) 0 count) (ClosedAt (tokensIn free.0) rows.now k) set.0 result.0 }
+        → Grown (Within (ClosedAt (tokens_in free.0) rows.now) 0 count) (ClosedAt (tokens_in free.0) rows.now k) set.0 result.0 }
 {
     let right = rights[k];
     if lies_in(NonterminalSet(right), set.union(free)) {

@@ -1,4 +1,6 @@
 // 11: the nonterminals that the start symbol reaches, and the lowest that is unreachable or derives no token string.
+#![tactic(auto)]
+
 ghost use Rattle.std.specs.Prelude.{◌≡◌, ℕ, ◌<◌, ◌≤◌, get_or};
 ghost use Rattle.meaning.specs.Limits.{nonterminals_limit};
 ghost use Rattle.meaning.specs.Grammar.{Grammar, nonterminal_count};
@@ -109,8 +111,8 @@ pub fn useless(
     rights: &[u64; PRODUCTIONS],
 ) -> usize
     requires { Image rows.now count × (nonterminals ≤ nonterminals_limit) × (start < nonterminals_limit) × SetsTo (right_by rows.now) count rights.now }
-    ensures { (g : Grammar) → ImageOf rows.now count g → nonterminals ≡ nonterminalCount g → start ≡ g.start
-        → Found (isUseless g) (nonterminalCount g) result }
+    ensures { (g : Grammar) → ImageOf rows.now count g → nonterminals ≡ nonterminal_count g → start ≡ g.start
+        → Found (is_useless g) (nonterminal_count g) result }
 {
     let all = first_of(nonterminals);
     let live = productive(rows, count, rights, all);

@@ -43,7 +43,7 @@ pub fn begins(
 }
 
 // What stands at the front of a right side behind symbols that derive nothing: a token, or none, and nonterminals.
-#[derive(Drop)]
+#[derive(Clone, Copy)]
 pub struct Front {
     pub token: TokenSet,
     pub heads: NonterminalSet,

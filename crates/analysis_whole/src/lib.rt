@@ -1,4 +1,6 @@
 // Refusals 11 and 12, and FIRST-then-FOLLOW of each production, on the image of a table's productions (outline `ImageOf`).
+#![tactic(auto)]
+
 ghost use Rattle.std.specs.Prelude.{◌≡◌, ◌<◌, ◌≤◌};
 ghost use Rattle.meaning.specs.Limits.{nonterminals_limit};
 ghost use Rattle.meaning.specs.Grammar.{Grammar, nonterminal_count};
@@ -22,7 +24,7 @@ pub mod starts;
 pub mod then_follow;
 
 // The number of the refusal, or 0; its nonterminal.
-#[derive(Drop)]
+#[derive(Clone, Copy)]
 pub struct Analysis {
     pub number: u32,
     pub index: usize,
@@ -37,7 +39,7 @@ pub fn analyse(
     sets: &mut [u64; PRODUCTIONS],
 ) -> Analysis
     requires { Image rows.now count × (nonterminals ≤ nonterminals_limit) × (start < nonterminals_limit) × SetsTo (right_by rows.now) count sets.old }
-    ensures { (g : Grammar) → ImageOf rows.now count g → nonterminals ≡ nonterminalCount g → start ≡ g.start
+    ensures { (g : Grammar) → ImageOf rows.now count g → nonterminals ≡ nonterminal_count g → start ≡ g.start
         → Analysed g result.number result.index sets.new }
 {
     let useless_at = useless(rows, count, nonterminals, start, sets);

@@ -46,9 +46,9 @@ pub fn starting(
     sets: &mut [u64; PRODUCTIONS],
 )
     requires { Image rows.now count × (n ≤ nonterminals_limit) × (start < nonterminals_limit) × (length sets.old ≡ productions_limit) }
-    ensures { (g : Grammar) → ImageOf rows.now count g → n ≡ nonterminalCount g → start ≡ g.start → Marks null.0 (nullable g)
-        → SettledTable (WithinAll (FrontAt true (members null.0) rows.now) 0 count) (replicate nonterminalsLimit 0) first.now
-        → (p : ℕ) → Listed g p → setOf (get_or sets.new p 0) ≡ starts g (productionAt g p) }
+    ensures { (g : Grammar) → ImageOf rows.now count g → n ≡ nonterminal_count g → start ≡ g.start → Marks null.0 (nullable g)
+        → SettledTable (WithinAll (FrontAt true (members null.0) rows.now) 0 count) (replicate nonterminals_limit 0) first.now
+        → (p : ℕ) → Listed g p → set_of (get_or sets.new p 0) ≡ starts g (production_at g p) }
 {
     let mut after = [0u64; NONTERMINALS];
     follow_where(rows, count, n, start, null, first, &mut after);

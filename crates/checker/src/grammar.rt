@@ -9,7 +9,7 @@ use limits::{PRODUCTIONS, ROWS};
 use outline::Sizes;
 
 // A table judged: accepted, with its numbers, or refused.
-#[derive(Drop)]
+#[derive(Clone, Copy)]
 pub enum Judged {
     Usable(Sizes),
     Unusable { number: u32, offset: u32 },

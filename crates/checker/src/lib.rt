@@ -1,4 +1,6 @@
 // The public calls that take only a table: its verdict, and the stretch of a production.
+#![tactic(auto)]
+
 ghost use Rattle.std.specs.Prelude.{◌≡◌};
 ghost use Rattle.meaning.specs.Decide.{verdict_of};
 ghost use Rattle.meaning.specs.PublicCalls.{stretch_of};
@@ -15,7 +17,7 @@ pub mod grammar;
 pub mod judging;
 pub mod spans;
 
-#[derive(Drop)]
+#[derive(Clone, Copy)]
 pub enum Verdict {
     Accepted,
     Refused { number: u32, offset: u32 },

@@ -1,9 +1,11 @@
 // The stretch of a production of an accepted table: where it lies, and the part handed back.
+#![tactic(auto)]
+
 ghost use Rattle.std.specs.Prelude.{◌≡◌};
 ghost use Rattle.checker_span.specs.Spans.{span_in, stretch_is, stretch_by, Inside};
 
 // From one offset to another, or a refusal.
-#[derive(Drop)]
+#[derive(Clone, Copy)]
 pub enum Span {
     Within { from: usize, to: usize },
     Nowhere { number: u32, offset: u32 },

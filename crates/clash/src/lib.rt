@@ -1,4 +1,6 @@
 // Refusal 13: the lowest production that clashes with an earlier one.
+#![tactic(auto)]
+
 pub mod kept;
 pub mod together;
 

@@ -1,4 +1,6 @@
 // Whether some values meet the conditions of a matrix: its nodes are eliminated one after the other, and no cycle may have a negative sum.
+#![tactic(auto)]
+
 ghost use Rattle.std.specs.Prelude.{ℕ, ◌-◌, ◌≤◌, ◌<◌, ◌≡◌, List, length, nat_abs, ◌+ℤ◌};
 ghost use Rattle.meaning.specs.Limits.{attributes_limit};
 ghost use Rattle.meaning.specs.Grammar.{Condition};
@@ -113,7 +115,7 @@ fn place(m: &[i64], v: &mut [i64])
 }
 
 // The value of the attribute a is at a.
-#[derive(Drop)]
+#[derive(Clone, Copy)]
 pub struct Solved {
     pub met: bool,
     pub values: [i64; 9],

@@ -1,4 +1,6 @@
 // The matrix of differences with the entry conditions of a production: one pass over its fields.
+#![tactic(auto)]
+
 ghost use Rattle.std.specs.Prelude.{◌≡◌, ◌<◌, ◌≤◌, true, T, length, unsigned_abs};
 ghost use Rattle.meaning.specs.Limits.{attributes_limit};
 ghost use Rattle.meaning.specs.Grammar.{Production};

@@ -1,5 +1,7 @@
 // Which earlier productions have to be compared with a later one: those with its left side and a set that meets its own, unless
 // the intervals that are kept of both keep them apart. The loop over them calls nothing else, so that a pair costs little.
+#![tactic(auto)]
+
 ghost use Rattle.std.specs.Prelude.{◌≡◌, ◌<◌, ◌≤◌};
 ghost use Rattle.meaning.specs.Limits.{productions_limit};
 ghost use Rattle.clash_rivals.specs.Rivals.{start_together, rival, NextRival};

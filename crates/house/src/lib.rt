@@ -1,5 +1,7 @@
 // The writer of house order: an accepted table with its productions as they stand, each followed by its rules by the occurrence
 // they set, then by its conditions by their bytes, each once.
+#![tactic(auto)]
+
 ghost use Rattle.std.specs.Prelude.{◌≡◌, length};
 ghost use Rattle.meaning_house.specs.House.{house_of};
 ghost use Rattle.house_write.specs.Answers.{house_is};

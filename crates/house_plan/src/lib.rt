@@ -1,4 +1,6 @@
 // The plan of a table: the offsets of its fields in house order, from the first production on.
+#![tactic(auto)]
+
 ghost use Rattle.std.specs.Prelude.{◌+◌, ◌-◌, ◌<◌, ◌≤◌, length, take};
 ghost use Rattle.house_sort.specs.arrange.Promises.{Room};
 ghost use Rattle.house_plan.specs.Plans.{GathersBehind, ProductionRoom, ProductionPlanned, TableRoom, TablePlanned};

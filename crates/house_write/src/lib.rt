@@ -1,4 +1,6 @@
 // The planned fields, one after the other, in the lent buffer.
+#![tactic(auto)]
+
 ghost use Rattle.std.specs.Prelude.{◌≡◌, ◌++◌, ◌≤◌, length, take};
 ghost use Rattle.meaning.specs.Limits.{table_limit};
 ghost use Rattle.meaning_house.specs.House.{writing};
@@ -6,7 +8,7 @@ ghost use Rattle.theory_order.specs.Planning.{copied};
 ghost use Rattle.house_write.specs.Answers.{house_is};
 
 // The table in house order is written, with its length; the buffer is too short (36); or the table is refused.
-#[derive(Drop)]
+#[derive(Clone, Copy)]
 pub enum Written {
     Done(usize),
     Short,
