@@ -1,4 +1,6 @@
 // Text as bytes in a lent buffer: each function writes at a position and gives the position behind what it wrote.
+#![tactic(auto)]
+
 ghost use Rattle.std.specs.Prelude.{◌+◌, ◌<◌, ◌≤◌, ◌≡◌, [], ◌∷◌, length};
 ghost use Rattle.meaning.specs.Listing.{word};
 ghost use Rattle.listing_bytes.specs.Written.{Wrote};

@@ -1,4 +1,6 @@
 // The first page of the listing of a table, whose program is written before.
+#![tactic(auto)]
+
 ghost use Rattle.std.specs.Prelude.{◌≤◌, ◌≡◌, length};
 ghost use Rattle.meaning.specs.PublicCalls.{area_length, made_of};
 ghost use Rattle.listing_pages.specs.Pages.{Shows, lines_of};

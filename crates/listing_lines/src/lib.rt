@@ -1,4 +1,6 @@
 // One line of the listing, made from the words of an instruction, a rule or a condition. A line has at most 64 bytes.
+#![tactic(auto)]
+
 ghost use Rattle.std.specs.Prelude.{◌+◌, ◌≤◌, ◌≡◌, ◌++◌, length};
 ghost use Rattle.meaning.specs.Listing.{word, refusal_line};
 ghost use Rattle.meaning.specs.PublicCalls.{written};

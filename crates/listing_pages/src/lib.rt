@@ -1,4 +1,6 @@
 // The listing of a table, a page of whole lines at a time into a lent buffer.
+#![tactic(auto)]
+
 ghost use Rattle.std.specs.Prelude.{◌≤◌, [], ◌∷◌, length};
 ghost use Rattle.meaning.specs.Listing.{refusal_line};
 ghost use Rattle.listing_text.specs.Cursors.{lines_left};
@@ -7,7 +9,7 @@ ghost use Rattle.listing_pages.specs.Pages.{Shows, Onward};
 use limits::LINE;
 use listing_text::Cursor;
 
-#[derive(Drop)]
+#[derive(Clone, Copy)]
 pub struct Page {
     // how many bytes the page has
     pub length: usize,

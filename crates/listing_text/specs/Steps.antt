@@ -8,7 +8,7 @@ use Rattle.meaning.specs.Rules.{WellFormed}
 use Rattle.meaning.specs.Scheme.{Instruction, add, evaluate, expect, test, remove}
 use Rattle.meaning.specs.Listing.{Text, listing}
 use Rattle.theory_program.specs.WordsStand.{stands_at}
-use Rattle.theory_program.specs.Code.{code_head, operation, rule_first_lem, condition_first_lem}
+use Rattle.theory_program.specs.Code.{code_head, rule_first_lem, condition_first_lem}
 use Rattle.theory_program.specs.Addresses.{Begins}
 use Rattle.theory_program.specs.Unpacked.{rule_at, condition_at}
 use Rattle.listing_lines.specs.Line.{rule_line, condition_line}

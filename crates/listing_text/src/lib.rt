@@ -1,4 +1,6 @@
 // The listing, line by line, from the program's words. 01: "each rule and condition has its own line, in table order; R always stands"
+#![tactic(auto)]
+
 ghost use Rattle.std.specs.Prelude.{◌+◌, ◌<◌, ◌≤◌, ◌≡◌, true, false, length};
 ghost use Rattle.meaning.specs.Limits.{area_length, symbols_limit};
 ghost use Rattle.listing_lines.specs.Line.{add_line, remove_line};
@@ -12,7 +14,7 @@ use value::{index_of, word_or_zero};
 const SYMBOLS: u32 = limits::SYMBOLS as u32;
 
 // Where the listing stands.
-#[derive(Drop)]
+#[derive(Clone, Copy)]
 pub struct Cursor {
     // whose lines come next
     pub production: u32,
@@ -26,7 +28,7 @@ pub struct Cursor {
     pub at: usize,
 }
 
-#[derive(Drop)]
+#[derive(Clone, Copy)]
 pub struct Line {
     // whether there was no line left
     pub over: bool,

@@ -1,4 +1,6 @@
 // What each call with a table begins with: the area, the table's verdict, and its program written. 01: "Order: 30, table, 33, 34, then the moves".
+#![tactic(auto)]
+
 ghost use Rattle.std.specs.Prelude.{◌≡◌};
 ghost use Rattle.meaning.specs.PublicCalls.{made, made_of};
 ghost use Rattle.prepare.specs.Making.{made_is, MadeAs};
@@ -9,7 +11,7 @@ use limits::{AREA, NONTERMINALS, PRODUCTIONS, ROWS};
 use records::Answer;
 
 // The area is too short (30), the table is refused, or its program is written, with its length.
-#[derive(Drop)]
+#[derive(Clone, Copy)]
 pub enum Made {
     Short,
     Refused { number: u32, offset: u32 },
@@ -55,7 +57,7 @@ pub fn program_of(table: &[u8], program: &mut [u32]) -> Made
 }
 
 // What a call begins with: it is turned back by 30 or by its table, or the table is accepted and its program written.
-#[derive(Drop)]
+#[derive(Clone, Copy)]
 pub enum Begun {
     Turned(Answer),
     Ready,

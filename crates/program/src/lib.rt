@@ -1,4 +1,6 @@
 // The builder: it writes the program of an accepted table, in the layout of docs/PROGRAM.md.
+#![tactic(auto)]
+
 ghost use Rattle.std.specs.Prelude.{◌≤◌, length};
 ghost use Rattle.meaning.specs.Limits.{area_length};
 ghost use Rattle.outline.specs.Outline.{grammar_in, Outlined};

@@ -85,7 +85,7 @@ pub fn write_production(
 ) -> usize
     requires { ProductionFits table.now sizes inherited.now synthesized.now rows.now offsets.now sets.now p area.old at body × Nexts rows.now sizes.productions nexts.now × LinksFit (length table.now) (length links.old) }
     ensures { (length links.new ≡ length links.old)
-        × ProductionWrote (grammarIn table.now) p area.old area.new at body result }
+        × ProductionWrote (grammar_in table.now) p area.old area.new at body result }
 {
     let fields = fields_of(table, rows, offsets, sizes.productions, p);
     let row = outline::row_of(rows, p);

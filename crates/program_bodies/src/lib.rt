@@ -1,4 +1,6 @@
 // The body of a production: the addresses of its expects, its entry tests, its scheme; and what its places wait at.
+#![tactic(auto)]
+
 ghost use Rattle.std.specs.Prelude.{ℕ, ◌≡◌, List, length};
 ghost use Rattle.meaning.specs.Scheme.{syn_between};
 ghost use Rattle.program_block_words.specs.Patch.{Wrote};
@@ -42,7 +44,7 @@ fn write_end(
 ) -> usize
     requires { EndFits row.now fields.now inherited.now marks.now links.now levels.now area.old address }
     ensures { (x : EndFits row.now fields.now inherited.now marks.now links.now levels.now area.old address)
-        → Wrote area.old area.new address result (endWords x.prepared.given.grammar x.prepared.given.production) }
+        → Wrote area.old area.new address result (end_words x.prepared.given.grammar x.prepared.given.production) }
 {
     let sum = whole_sum(row, inherited, levels);
     let own = value::byte_at(inherited, outline::row_left(row) as usize);

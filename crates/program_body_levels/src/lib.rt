@@ -1,4 +1,6 @@
 // The levels of a production's positions, and what its places wait at.
+#![tactic(auto)]
+
 ghost use Rattle.std.specs.Prelude.{ℕ, ◌+◌, ◌≤◌, ◌<◌, ◌≡◌, List, length};
 ghost use Rattle.meaning.specs.Limits.{positions_limit, symbols_limit};
 ghost use Rattle.program_body_words.specs.OfProduction.{OfProduction, Carried};

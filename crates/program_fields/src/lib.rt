@@ -1,4 +1,6 @@
 // Where the rules and conditions of a production stand in the table, by its row and the offsets of the outline.
+#![tactic(auto)]
+
 ghost use Rattle.std.specs.Prelude.{◌≤◌, ◌<◌, ◌≡◌, length};
 ghost use Rattle.meaning.specs.Limits.{productions_limit};
 ghost use Rattle.program_words.specs.Fields.{fields_from, stretch_end, fields_at};

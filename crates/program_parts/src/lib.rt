@@ -1,4 +1,6 @@
 // The layout of the program (docs/PROGRAM.md) in code: how many words each thing has, which word of it is which, and the parts of a word. Every crate that reads a program or a place takes it apart here, and every crate that writes one puts its words together here.
+#![tactic(auto)]
+
 ghost use Rattle.std.specs.Prelude.{◌+◌, ◌*◌, ◌≤◌, ◌<◌, ◌≡◌, length};
 ghost use Rattle.meaning.specs.Grammar.{place_at, place_production, place_passed};
 ghost use Rattle.meaning.specs.Program.{packed, head_of};

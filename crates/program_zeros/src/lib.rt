@@ -1,4 +1,6 @@
 // Zeros in a range of words.
+#![tactic(auto)]
+
 ghost use Rattle.std.specs.Prelude.{◌-◌, ◌≤◌, ◌≡◌, length, replicate};
 ghost use Rattle.program_block_words.specs.Patch.{patch};
 

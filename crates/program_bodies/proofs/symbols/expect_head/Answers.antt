@@ -1,0 +1,10 @@
+use native.Mathlib.Omega.{arith}
+use mathlib.Core.Path.{◌∙◌}
+use Rattle.program_body_words.specs.Laws as L
+use Rattle.program_bodies.proofs.symbols.expect_head.Goals as goal
+
+pub returns-then-symbol-lt128 : goal.returns-then-symbol-lt128
+returns-then-symbol-lt128 c = c.head.ensures ∙ L.head_terminal _ (omega arith)
+
+pub returns : goal.returns
+returns c = c.head-2.ensures ∙ L.head_nonterminal _ (omega arith)
