@@ -17,8 +17,8 @@ pub fn feed_in_place(
     kinds: &[u8],
     values: &[i32],
 ) -> Answer
-    ensures { effectIs (record { «record» = «record».exit.now; answer = result }) registers.new places.new program.new
-        ≡ performs program_of table.now program.old (recordIs «record».entry.now) (stacksOf registers.old places.old) (feed kinds.now values.now) }
+    ensures { effect_is (record { «record» = «record».new; answer = result }) registers.new places.new program.new
+        ≡ performs program_of table.now program.old (record_is «record».old) (stacks_of registers.old places.old) (feed kinds.now values.now) }
 {
     let before = *record;
     let called = before.feed(table, registers, places, program, kinds, values);

@@ -1,4 +1,6 @@
 // 01's calls on a run: it is opened, fed lists of tokens, and finished.
+#![tactic(auto)]
+
 ghost use Rattle.std.specs.Prelude.{◌≡◌};
 ghost use Rattle.meaning.specs.Program.{program_of};
 ghost use Rattle.meaning.specs.PublicCalls.{opens, performs, feed, finish, stacks_of};
@@ -13,12 +15,12 @@ use run_lent::Call;
 pub mod in_place;
 
 // The run record: a state, with the calls as its methods.
-#[derive(Drop)]
+#[derive(Clone, Copy)]
 pub struct Record {
     pub state: State,
 }
 
-#[derive(Drop)]
+#[derive(Clone, Copy)]
 pub struct Called {
     pub record: Record,
     pub answer: Answer,

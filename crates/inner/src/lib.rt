@@ -1,4 +1,6 @@
 // 02 (h)'s inner run, on its own table, over the lent stacks above an outer run that waits until it ends.
+#![tactic(auto)]
+
 ghost use Rattle.std.specs.Prelude.{◌≡◌};
 ghost use Rattle.meaning.specs.Program.{program_of};
 ghost use Rattle.meaning.specs.PublicCalls.{stacks_of, feed, finish};
@@ -21,7 +23,7 @@ pub mod states;
 pub mod stretch;
 
 // What an inner call hands back: both records and the answer.
-#[derive(Drop)]
+#[derive(Clone, Copy)]
 pub struct InnerCalled {
     pub outer: Record,
     pub inner: Record,
@@ -78,8 +80,8 @@ fn perform(
     kinds: &[u8],
     values: &[i32],
 ) -> InnerHanded
-    ensures { innerLeaves result registers.new places.new program.new
-        ≡ innerPerforms program_of table.now program.old (stateIs outer) (stateIs inner) (stacksOf registers.old places.old) (callIs call kinds.now values.now) }
+    ensures { inner_leaves result registers.new places.new program.new
+        ≡ inner_performs program_of table.now program.old (state_is outer) (state_is inner) (stacks_of registers.old places.old) (call_is call kinds.now values.now) }
 {
     match prepare::begin(table, program) {
         Begun::Turned(answer) => InnerHanded {
@@ -104,8 +106,8 @@ pub fn feed_inner(
     kinds: &[u8],
     values: &[i32],
 ) -> InnerCalled
-    ensures { innerEffectIs result registers.new places.new program.new
-        ≡ innerPerforms program_of table.now program.old (recordIs outer) (recordIs inner) (stacksOf registers.old places.old) (Inner.engine (feed kinds.now values.now)) }
+    ensures { inner_effect_is result registers.new places.new program.new
+        ≡ inner_performs program_of table.now program.old (record_is outer) (record_is inner) (stacks_of registers.old places.old) (Inner.engine (feed kinds.now values.now)) }
 {
     let below = outer.state;
     let above = inner.state;

@@ -39,8 +39,8 @@ fn open_over(
     program: &mut [u32],
 ) -> InnerHanded
     requires { Readable program.old }
-    ensures { (g : Grammar) → HasProgram g program.old → innerLeaves result registers.new places.new program.new
-        ≡ (let m = stacksOf registers.old places.old in whenOuterFits g (stateIs outer) m program.old (calledInside table.now program.old (stateIs outer) closedRecord m (openedInside (stateIs outer) m))) }
+    ensures { (g : Grammar) → HasProgram g program.old → inner_leaves result registers.new places.new program.new
+        ≡ (let m = stacks_of registers.old places.old in when_outer_fits g (state_is outer) m program.old (called_inside table.now program.old (state_is outer) closed_record m (opened_inside (state_is outer) m))) }
 {
     let number = crate::judging::judge(registers, places, program, outer);
     if number != 0 {

@@ -7,7 +7,7 @@ ghost use Rattle.inner.specs.states.Records.{apart_number, not_opened_from, open
 use records::{Answer, Handed, State};
 
 // What an inner call hands back: both states and the answer.
-#[derive(Drop)]
+#[derive(Clone, Copy)]
 pub struct InnerHanded {
     pub outer: State,
     pub inner: State,
@@ -15,7 +15,7 @@ pub struct InnerHanded {
 }
 
 // The later calls on an inner run.
-#[derive(Drop)]
+#[derive(Clone, Copy)]
 pub enum Call {
     Feed,
     Finish,

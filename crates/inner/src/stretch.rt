@@ -99,8 +99,8 @@ fn call_stretch(
     values: &[i32],
 ) -> InnerHanded
     requires { Readable program.now }
-    ensures { (g : Grammar) → HasProgram g program.now → innerHandedIs result registers.new places.new
-        ≡ stretchCalled g (stateIs outer) (stateIs inner) (stacksOf registers.old places.old) (callIs call kinds.now values.now) }
+    ensures { (g : Grammar) → HasProgram g program.now → inner_handed_is result registers.new places.new
+        ≡ stretch_called g (state_is outer) (state_is inner) (stacks_of registers.old places.old) (call_is call kinds.now values.now) }
 {
     let alone = inner.alone();
     let handed = call_cells(call, registers, places, program, alone, kinds, values);

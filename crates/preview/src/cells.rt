@@ -19,8 +19,8 @@ pub fn preview_cells(
     value: i32,
 ) -> Handed
     requires { Readable program.now }
-    ensures { (g : Grammar) → HasProgram g program.now → handedIs result scratch_registers.new scratch_places.new
-        ≡ previewOf g (stateIs brought) (stacksOf registers.now places.now) (stacksOf scratch_registers.old scratch_places.old) kind value }
+    ensures { (g : Grammar) → HasProgram g program.now → handed_is result scratch_registers.new scratch_places.new
+        ≡ preview_of g (state_is brought) (stacks_of registers.now places.now) (stacks_of scratch_registers.old scratch_places.old) kind value }
 {
     let number = crate::judging::judge(
         registers,

@@ -23,8 +23,8 @@ pub fn preview_lent(
     value: i32,
 ) -> Handed
     requires { Judged program.now registers.now places.now (state_is brought) × LentAlike registers.now places.now scratch_registers.old scratch_places.old }
-    ensures { (g : Grammar) → HasProgram g program.now → handedIs result scratch_registers.new scratch_places.new
-        ≡ tried g (stateIs brought) (stacksOf registers.now places.now) (stacksOf scratch_registers.old scratch_places.old) kind value }
+    ensures { (g : Grammar) → HasProgram g program.now → handed_is result scratch_registers.new scratch_places.new
+        ≡ tried g (state_is brought) (stacks_of registers.now places.now) (stacks_of scratch_registers.old scratch_places.old) kind value }
 {
     run_cells::clear_registers(scratch_registers);
     run_cells::clear_places(scratch_places);

@@ -1,4 +1,6 @@
 // 02 (g): what one more token would do to a run that is stopped, and the set of tokens that may come next. The caller's record and stacks are only read.
+#![tactic(auto)]
+
 ghost use Rattle.std.specs.Prelude.{◌≡◌};
 ghost use Rattle.meaning.specs.Grammar.{Grammar};
 ghost use Rattle.meaning.specs.Program.{program_of};
@@ -26,7 +28,7 @@ pub mod scratch;
 pub mod token;
 
 // The set of tokens that may come next, or what turns the call back.
-#[derive(Drop)]
+#[derive(Clone, Copy)]
 pub enum May {
     Tokens(TokenSet),
     Turned(Answer),
@@ -44,8 +46,8 @@ pub fn preview(
     kind: u8,
     value: i32,
 ) -> Called
-    ensures { effectIs result scratch_registers.new scratch_places.new program.new
-        ≡ previews program_of table.now program.old (recordIs «record») (stacksOf registers.now places.now) (stacksOf scratch_registers.old scratch_places.old) kind value }
+    ensures { effect_is result scratch_registers.new scratch_places.new program.new
+        ≡ previews program_of table.now program.old (record_is «record») (stacks_of registers.now places.now) (stacks_of scratch_registers.old scratch_places.old) kind value }
 {
     let state = record.state;
     match prepare::begin(table, program) {
@@ -75,7 +77,7 @@ fn may_lent(
 ) -> TokenSet
     requires { Judged program.now registers.now places.now (state_is brought) × LentAlike registers.now places.now scratch_registers.old scratch_places.old }
     ensures { (g : Grammar) → HasProgram g program.now
-        → SetAnswered g (stateIs brought) registers.now places.now scratch_registers.old scratch_places.old value result.0 scratch_registers.new scratch_places.new }
+        → SetAnswered g (state_is brought) registers.now places.now scratch_registers.old scratch_places.old value result.0 scratch_registers.new scratch_places.new }
 {
     run_cells::clear_registers(scratch_registers);
     run_cells::clear_places(scratch_places);
@@ -102,8 +104,8 @@ fn may_cells(
     value: i32,
 ) -> May
     requires { Readable program.now }
-    ensures { (g : Grammar) → HasProgram g program.now → mayEffectIs result scratch_registers.new scratch_places.new program.now
-        ≡ mayOf g (stateIs brought) (stacksOf registers.now places.now) (stacksOf scratch_registers.old scratch_places.old) value program.now }
+    ensures { (g : Grammar) → HasProgram g program.now → may_effect_is result scratch_registers.new scratch_places.new program.now
+        ≡ may_of g (state_is brought) (stacks_of registers.now places.now) (stacks_of scratch_registers.old scratch_places.old) value program.now }
 {
     let number = crate::judging::judge(
         registers,
@@ -140,8 +142,8 @@ pub fn may_follow(
     program: &mut [u32],
     value: i32,
 ) -> May
-    ensures { mayEffectIs result scratch_registers.new scratch_places.new program.new
-        ≡ mays program_of table.now program.old (recordIs «record») (stacksOf registers.now places.now) (stacksOf scratch_registers.old scratch_places.old) value }
+    ensures { may_effect_is result scratch_registers.new scratch_places.new program.new
+        ≡ mays program_of table.now program.old (record_is «record») (stacks_of registers.now places.now) (stacks_of scratch_registers.old scratch_places.old) value }
 {
     let state = record.state;
     match prepare::begin(table, program) {

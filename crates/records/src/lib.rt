@@ -1,4 +1,6 @@
 // A run's state and a call's answer, as one call hands them to the next. Above this crate a state is made by these functions and asked by them, so that a new status or kind is a matter of this crate.
+#![tactic(auto)]
+
 ghost use Rattle.std.specs.Prelude.{◌≡◌};
 ghost use Rattle.meaning.specs.Calls as Calls;
 ghost use Rattle.meaning_inner.specs.Inner.{is_closed, is_running, is_waiting, is_outer, begins_at};
@@ -8,7 +10,7 @@ ghost use Rattle.records.specs.declared.Kind.TheVariants.{Inner, Outer};
 ghost use Rattle.records.specs.States.{running_at, with_status, with_kind, closed_at_zero, gate_of, gate_number, brought_back, not_opened};
 
 // A run goes on, waits for the inner run above it, or is closed.
-#[derive(Drop)]
+#[derive(Clone, Copy)]
 pub enum Status {
     Running,
     Waiting,
@@ -16,14 +18,14 @@ pub enum Status {
 }
 
 // 02 (h): "The inner record keeps the heights where it begins": of the registers, of the places.
-#[derive(Drop)]
+#[derive(Clone, Copy)]
 pub enum Kind {
     Outer,
     Inner(u64, u64),
 }
 
 // How a run stands and of what kind it is, tokens read, moves made, and the heights of both stacks.
-#[derive(Drop)]
+#[derive(Clone, Copy)]
 pub struct State {
     pub status: Status,
     pub kind: Kind,
@@ -33,7 +35,7 @@ pub struct State {
     pub places: u64,
 }
 
-#[derive(Drop)]
+#[derive(Clone, Copy)]
 pub enum Answer {
     // Opened, fed or previewed: the moves made since opening.
     More(u64),
@@ -47,7 +49,7 @@ pub enum Answer {
 }
 
 // What a call hands back.
-#[derive(Drop)]
+#[derive(Clone, Copy)]
 pub struct Handed {
     pub state: State,
     pub answer: Answer,

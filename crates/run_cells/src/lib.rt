@@ -1,4 +1,6 @@
 // The lent cells: how many of them a run may use, and their clearing.
+#![tactic(auto)]
+
 ghost use Rattle.std.specs.Prelude.{min, ◌≡◌, length, replicate};
 ghost use Rattle.meaning.specs.Value.{mark};
 

@@ -5,7 +5,7 @@ use Rattle.std.proofs.Math.Path.{refl}
 use Rattle.std.proofs.Math.Bool.{true, false, cond}
 use borrow.Author.Tests.{lt-ltb, le-ltb, ltb-true, ltb-false, eq-eqb, ne_eqb, eqb-true, eqb-false}
 use Rattle.meaning.specs.Limits.{registers_limit, nonterminals_limit, symbols_limit}
-use Rattle.meaning.specs.Grammar.{terminal, nonterminal, Grammar, production_at, syn, is_nonterminal, place_production, place_passed, nonterminal_base}
+use Rattle.meaning.specs.Grammar.{nonterminal, Grammar, production_at, syn, is_nonterminal, place_production, place_passed, nonterminal_base}
 use Rattle.meaning.specs.Rules.{WellFormed}
 use Rattle.meaning.specs.Table.{symbol_of}
 use Rattle.meaning.specs.Calls.{Cell, valued, marked, awaited}

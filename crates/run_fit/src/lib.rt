@@ -1,4 +1,6 @@
 // 34: whether the stacks fit, in any record and any lent cells. Registers are taken from the bottom up, as the places tell them.
+#![tactic(auto)]
+
 ghost use Rattle.std.specs.Prelude.{◌+◌, ◌-◌, ◌≤◌, ◌≡◌, ◌&&◌, ◌++◌, length, drop, replicate, eqb};
 ghost use Rattle.meaning.specs.Limits.{registers_limit, places_limit};
 ghost use Rattle.meaning.specs.Grammar.{Grammar, nonterminal, nonterminal_base};
@@ -22,7 +24,7 @@ const NO_PLACE: usize = 4294967296;
 // ---- what the program says of a place
 
 // The rows of words that say what places wait at, one for each production, and where they begin.
-#[derive(Drop)]
+#[derive(Clone, Copy)]
 struct WaitSection {
     count: usize,
     begin: usize,

@@ -1,4 +1,6 @@
 // A feed and a finish on the lent cells, under a grammar whose program is at hand.
+#![tactic(auto)]
+
 ghost use Rattle.std.specs.Prelude.{◌≤◌, ◌≡◌, length};
 ghost use Rattle.meaning.specs.Limits.{registers_limit, places_limit};
 ghost use Rattle.meaning.specs.Grammar.{Grammar};
@@ -13,7 +15,7 @@ use limits::UNFIT;
 use records::{Answer, Handed, State, as_brought};
 
 // The calls on a run that is opened.
-#[derive(Drop)]
+#[derive(Clone, Copy)]
 pub enum Call {
     Feed,
     Finish,

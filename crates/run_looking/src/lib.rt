@@ -1,4 +1,6 @@
 // What comes next, judged before its moves; which operations look at it; the value that a token brings.
+#![tactic(auto)]
+
 ghost use Rattle.std.specs.Prelude.{◌-◌, ◌≤◌, ◌<◌, ◌≡◌, length};
 ghost use Rattle.run_looking.specs.Judging as Judging;
 ghost use Rattle.run_looking.specs.Judging.{judged_of, value_at};
@@ -7,7 +9,7 @@ ghost use Rattle.run_looking.specs.Judging.{judged_of, value_at};
 pub const TAKEN: u32 = 1;
 
 // What is taken of a list: the tokens read before it, the bound of its kinds, and the most tokens that may be read before one.
-#[derive(Drop)]
+#[derive(Clone, Copy)]
 pub struct Limits {
     pub from: u64,
     pub bound: usize,

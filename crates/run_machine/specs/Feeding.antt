@@ -1,5 +1,5 @@
 -- What comes next, one after the other: tokens that are fed, or the end; as memory and the program's words hold the configuration.
-use Rattle.std.specs.Prelude.{ℕ, ◌-◌, ◌≤◌, ◌<◌, ◌≡◌, refl, Bool, true, false, List, [], ◌∷◌, get_or, eqb, ltb, ℤ}
+use Rattle.std.specs.Prelude.{ℕ, ◌-◌, ◌≤◌, ◌<◌, ◌≡◌, refl, Bool, true, false, List, [], ◌∷◌, get_or, ltb, ℤ}
 use Rattle.std.proofs.Common.{arith, ap, ◌∙◌, subst, le-ltb, ltb-true, ne_eqb}
 use Rattle.meaning.specs.Sets.{end_number}
 use Rattle.meaning.specs.Grammar.{Grammar, Token, leaf_of, leaves}

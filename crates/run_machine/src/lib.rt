@@ -1,4 +1,6 @@
 // The loop that makes the moves of 01 on lent stacks, for tokens that are fed and for the end.
+#![tactic(auto)]
+
 ghost use Rattle.std.specs.Prelude.{◌≡◌, length};
 ghost use Rattle.run_next_token.specs.Operations.{Running};
 ghost use Rattle.run_next_token.specs.Turns.{Fed};
@@ -19,7 +21,7 @@ const END_KIND: u8 = END as u8;
 const KINDS: usize = END + 1;
 
 // What moves lead to until one needs what comes next: a stop, or the number that refuses the move at hand.
-#[derive(Drop)]
+#[derive(Clone, Copy)]
 pub enum Ended {
     Stopped(Run),
     Failed(Run, u32),

@@ -2,7 +2,7 @@
 use Rattle.std.specs.Prelude.{ℕ, ◌+◌, ◌-◌, ◌*◌, ◌/◌, ◌<◌, ◌≡◌, refl, Bool, true, false, List, ◌∷◌, map, ◌⊎◌, length, get_or, set, replicate, T, eqb, ltb, ℤ}
 use Rattle.std.proofs.Common.{arith, sym, ap, ◌∙◌, subst, true≢false, inl, inr, length-set, get_or-set_same, get_or-set_other, eqb→eq, ltb→lt, eq-eqb}
 use Rattle.std.proofs.lemmas.List.{length-replicate, get_or-replicate}
-use Rattle.meaning.specs.Grammar.{Grammar, nonterminal, production_at, whole, place_production}
+use Rattle.meaning.specs.Grammar.{Grammar, production_at, whole, place_production}
 use Rattle.meaning.specs.Scheme.{Instruction}
 use Rattle.meaning.specs.Rules.{WellFormed}
 use Rattle.meaning.specs.Machine.{Frame, Config, Lent, place_of}

@@ -1,4 +1,6 @@
 // The moves of 01 on lent stacks but for the predict, by the program's words.
+#![tactic(auto)]
+
 ghost use Rattle.std.specs.Prelude.{◌+◌, ◌-◌, ◌≤◌, ◌<◌, ◌≡◌, true, length, get_or};
 ghost use Rattle.meaning.specs.Grammar.{Grammar};
 ghost use Rattle.meaning.specs.Machine as Machine;
@@ -12,7 +14,7 @@ ghost use Rattle.run_moves.specs.Passing.{look_of, Waiting, Resumes};
 use limits::{END, WHOLE};
 
 // A run: what was counted, the heights of both stacks, and the address of the next instruction of the top place's production.
-#[derive(Drop)]
+#[derive(Clone, Copy)]
 pub struct Run {
     pub tokens: u64,
     pub moves: u64,
@@ -22,7 +24,7 @@ pub struct Run {
 }
 
 // What a move leads to: the run after it, or the number that refuses it.
-#[derive(Drop)]
+#[derive(Clone, Copy)]
 pub enum Step {
     Moved(Run),
     Blocked(u32),

@@ -1,4 +1,6 @@
 // The moves that look at what comes next but for the predict, and what ends them.
+#![tactic(auto)]
+
 ghost use Rattle.std.specs.Prelude.{ℕ, ◌+◌, ◌-◌, ◌≤◌, ◌<◌, ◌≡◌, List, ℤ, get_or, length};
 ghost use Rattle.meaning.specs.Machine as Machine;
 ghost use Rattle.meaning.specs.Program.{read_operation, nothing_operation};

@@ -1,4 +1,6 @@
 // One move, whatever its kind.
+#![tactic(auto)]
+
 ghost use Rattle.std.specs.Prelude.{◌≤◌, ◌<◌, get_or};
 ghost use Rattle.meaning.specs.Program.{remove_operation};
 ghost use Rattle.theory_program.specs.Parts.{head_operation};

@@ -1,5 +1,5 @@
 -- What an opening leaves in the lent cells.
-use Rattle.std.specs.Prelude.{ℕ, ◌-◌, ◌≤◌, ◌<◌, ◌≡◌, refl, Bool, true, false, List, [], ◌++◌, map, length, get_or, set, drop, replicate, ltb, ℤ}
+use Rattle.std.specs.Prelude.{ℕ, ◌-◌, ◌≤◌, ◌<◌, ◌≡◌, refl, Bool, true, false, List, [], ◌++◌, map, length, get_or, set, replicate, ltb, ℤ}
 use Rattle.std.proofs.Common.{arith, sym, ap, ◌∙◌, append-nil, drop_of_length-le, lt-ltb, le-ltb}
 use Rattle.std.proofs.lemmas.List.{length-replicate}
 use Rattle.meaning.specs.Limits.{registers_limit, places_limit}

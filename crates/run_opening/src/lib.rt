@@ -1,4 +1,6 @@
 // 01's opening on the lent cells, under a grammar whose program is at hand.
+#![tactic(auto)]
+
 ghost use Rattle.std.specs.Prelude.{◌≤◌, ◌<◌, ◌≡◌, length};
 ghost use Rattle.meaning.specs.Limits.{registers_limit, places_limit};
 ghost use Rattle.meaning.specs.Grammar.{Grammar};

@@ -1,4 +1,6 @@
 // The predict: the place of the alternative that is entered is pushed.
+#![tactic(auto)]
+
 ghost use Rattle.std.specs.Prelude.{◌+◌, ◌*◌, ◌≤◌, ◌<◌, ◌≡◌, length, get_or, set};
 ghost use Rattle.meaning.specs.Limits.{productions_limit};
 ghost use Rattle.meaning.specs.Grammar.{place_at};

@@ -1,4 +1,6 @@
 // The read of a token, on lent stacks.
+#![tactic(auto)]
+
 ghost use Rattle.std.specs.Prelude.{◌≡◌, true, false, List, ℤ, get_or};
 ghost use Rattle.meaning.specs.Calls.{is_mark};
 ghost use Rattle.meaning.specs.Program.{read_operation};

@@ -1,4 +1,6 @@
 // Conditions tested and rules evaluated on the register stack, by the program's words.
+#![tactic(auto)]
+
 ghost use Rattle.std.specs.Prelude.{◌+◌, ◌*◌, ◌≤◌, ◌<◌, ◌≡◌, true, List, ℤ, length, get_or};
 ghost use Rattle.meaning.specs.Base.{all};
 ghost use Rattle.meaning.specs.Machine.{read_register};

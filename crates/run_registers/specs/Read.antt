@@ -33,12 +33,12 @@ conditions_from ws a (suc n) = condition_here ws a ∷ conditions_from ws (a + 3
 pub rules_read : {ws : List ℕ} {a : ℕ} (rules : List (Rule ℕ)) → RulesAt ws a rules → ((r : Rule ℕ) → In r rules → ProperRule r) → rules_from ws a (length rules) ≡ rules
 unfolding rules_from
 rules_read [] s p = refl
-rules_read (r ∷ rules) s p = ap₂ (λ x xs. x ∷ xs) (rule_at s (p r (inl refl))) (rules_read rules (rule_first_lem s).2 (λ q i. p q (inr i)))
+rules_read {ws = ws} {a = a} (r ∷ rules) s p = ap₂ (λ x xs. x ∷ xs) (rule_at s (p r (inl refl))) (rules_read {ws = ws} {a = a + 2} rules (rule_first_lem s).2 (λ q i. p q (inr i)))
 
 pub conditions_read : {ws : List ℕ} {a : ℕ} (cs : List (Condition ℕ)) → ConditionsAt ws a cs → ((c : Condition ℕ) → In c cs → ProperCondition c) → conditions_from ws a (length cs) ≡ cs
 unfolding conditions_from
 conditions_read [] s p = refl
-conditions_read (c ∷ cs) s p = ap₂ (λ x xs. x ∷ xs) (condition_at s (p c (inl refl))) (conditions_read cs (condition_first_lem s).3 (λ q i. p q (inr i)))
+conditions_read {ws = ws} {a = a} (c ∷ cs) s p = ap₂ (λ x xs. x ∷ xs) (condition_at s (p c (inl refl))) (conditions_read {ws = ws} {a = a + 3} cs (condition_first_lem s).3 (λ q i. p q (inr i)))
 
 -- ---- registers that stand, and that hold a value
 

@@ -1,4 +1,6 @@
 // The moves of 01 that work on the register stack. The stack lies in the first `height` cells of the lent registers; register 1 is the top, at index `height - 1`.
+#![tactic(auto)]
+
 ghost use Rattle.std.specs.Prelude.{◌≤◌, ◌≡◌, length, drop};
 ghost use Rattle.meaning.specs.Calls.{lay};
 ghost use Rattle.meaning.specs.Machine.{read_register};

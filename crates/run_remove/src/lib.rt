@@ -1,4 +1,6 @@
 // The moves that leave a symbol: the test of its conditions, and the remove at the end of a production.
+#![tactic(auto)]
+
 ghost use Rattle.std.specs.Prelude.{ℕ, List};
 ghost use Rattle.meaning.specs.Machine as Machine;
 ghost use Rattle.meaning.specs.Program.{test_operation, remove_operation};

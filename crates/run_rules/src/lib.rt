@@ -1,4 +1,6 @@
 // The moves that add registers and evaluate rules into them.
+#![tactic(auto)]
+
 ghost use Rattle.std.specs.Prelude.{ℕ, ◌+◌, ◌≡◌, true, List, get_or};
 ghost use Rattle.meaning.specs.Machine as Machine;
 ghost use Rattle.meaning.specs.Program.{add_operation, evaluate_operation};

@@ -6,7 +6,7 @@ use Rattle.std.proofs.Math.ListN.{get_or-eq_default}
 use Rattle.meaning.specs.Limits.{registers_limit, places_limit}
 use Rattle.meaning.specs.Grammar.{Grammar}
 use Rattle.meaning.specs.Value.{mark, in_range}
-use Rattle.meaning.specs.Machine.{Config, read_register, Settled, stopped, failed, place_of, is_finished, finish_all, moves_limit}
+use Rattle.meaning.specs.Machine.{Config, read_register, Settled, stopped, place_of, is_finished, finish_all, moves_limit}
 use Rattle.meaning.specs.Walk.{nothing}
 use Rattle.meaning.specs.Calls as Calls
 use Rattle.meaning.specs.Calls.{outer, lent_of, lay_all, status_of, record_of, result, after_feed, after_finish_value}

@@ -1,5 +1,5 @@
 -- From stacks that fit, or from the opening, to a run that memory holds.
-use Rattle.std.specs.Prelude.{ℕ, ◌+◌, ◌-◌, ◌*◌, ◌≤◌, ◌≡◌, refl, ◌⊎◌, Bool, true, false, ◌&&◌, ◌||◌, List, [], ◌∷◌, ◌++◌, map, reverse, length, get_or, drop, replicate, T, ltb, ℤ}
+use Rattle.std.specs.Prelude.{ℕ, ◌+◌, ◌-◌, ◌*◌, ◌≤◌, ◌≡◌, refl, ◌⊎◌, Bool, true, false, ◌&&◌, ◌||◌, List, [], ◌∷◌, ◌++◌, map, reverse, length, get_or, replicate, T, ltb, ℤ}
 use Rattle.std.proofs.Common.{arith, sym, ap, ◌∙◌, subst, subst₂, inl, inr, drop_of_length-le, lt-ltb}
 use Rattle.std.proofs.lemmas.List.{length-replicate, length-map}
 use Rattle.meaning.specs.Limits.{registers_limit, places_limit}

@@ -1,4 +1,6 @@
 // A run on the lent cells: from a state to the machine, and from the machine to what is handed back.
+#![tactic(auto)]
+
 ghost use Rattle.std.specs.Prelude.{◌≤◌, ◌≡◌, List, ℤ, length, get_or};
 ghost use Rattle.meaning.specs.Limits.{registers_limit, places_limit};
 ghost use Rattle.meaning.specs.Rules.{WellFormed};
@@ -35,8 +37,8 @@ fn address_of(program: &[u32], place: usize) -> usize
 
 pub fn run_of(places: &[u32], program: &[u32], brought: State) -> Run
     requires { (vs : List ℤ) × Fitting program.now vs places.now (state_is brought) }
-    ensures { (g : Grammar) (vs : List ℤ) → Begins g program.now → WellFormed g → length vs ≤ registersLimit → length places.now ≤ placesLimit → Fit g (stateIs brought) (stacksOf vs places.now)
-        → Held g program.now (lent_of (stacksOf vs places.now)) vs places.now result (configOf g (stateIs brought) (stacksOf vs places.now)) }
+    ensures { (g : Grammar) (vs : List ℤ) → Begins g program.now → WellFormed g → length vs ≤ registers_limit → length places.now ≤ places_limit → Fit g (state_is brought) (stacks_of vs places.now)
+        → Held g program.now (lent_of (stacks_of vs places.now)) vs places.now result (config_of g (state_is brought) (stacks_of vs places.now)) }
 {
     let height = brought.places as usize;
     let place = run_moves::word_at(places, height - 1);

@@ -1,4 +1,6 @@
 // A turn of the loop over the moves: the add and the evaluate at hand, then the move behind them, with reads that follow it.
+#![tactic(auto)]
+
 ghost use Rattle.std.specs.Prelude.{ℕ, ◌+◌, ◌-◌, ◌*◌, ◌≤◌, ◌<◌, ◌≡◌, List, ℤ, get_or, length};
 ghost use Rattle.meaning.specs.Machine as Machine;
 ghost use Rattle.meaning.specs.Program.{add_operation, evaluate_operation, predict_operation};
@@ -22,7 +24,7 @@ pub mod entering;
 pub const RETURN_WORDS: usize = 2 * RETURNS;
 
 // What a turn leads to: the run after its moves, or the run at which they end and the number that ends them, 0 for a stop.
-#[derive(Drop)]
+#[derive(Clone, Copy)]
 pub enum Onward {
     Going(Run),
     Over(Run, u32),

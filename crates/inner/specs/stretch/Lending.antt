@@ -10,7 +10,7 @@ use Rattle.meaning.specs.Calls.{running, closed, Kind, inner, Record, Stacks, Ca
 use Rattle.meaning.specs.PublicCalls.{stacks_of, call_of}
 use Rattle.meaning_inner.specs.Inner.{above, paste, cleared, with_status, with_kind, alone, beginning, InnerCalled, handed_back, opened_above, inner_open_of, InnerCall, engine_call, on_stretch, ends, after_inner, is_closed, belongs, inner_of}
 use Rattle.theory_inner.specs.Stretch.{paste_same}
-use Rattle.theory_inner.specs.Slices.{capped, above_capped, paste_capped, above_cells, paste_cells}
+use Rattle.theory_inner.specs.Slices.{above_capped, paste_capped, above_cells, paste_cells}
 use Rattle.theory_inner.specs.Calling.{belongs_is}
 use Rattle.records.specs.declared.Handed as Code
 use Rattle.records.specs.declared.State as Brought

@@ -1,0 +1,58 @@
+use Rattle.theory_program.specs.Parts.{head_operation}
+use native.Mathlib.Omega.{arith}
+use mathlib.Core.Path.{◌≡◌, refl, sym, ap, ◌∙◌}
+use mathlib.Core.Bool.{false}
+use lib.ListN.{get_or}
+use Rattle.meaning.specs.Program.{evaluate_operation}
+use Rattle.meaning.specs.Machine.{ends}
+use Rattle.run_looking.specs.Judging.{looks_ahead}
+use Rattle.run_moves.specs.declared.Step.TheVariants.{Blocked}
+use Rattle.run_moves.specs.Held.{bounds}
+use Rattle.run_next_token.specs.Operations.{limit_answers}
+use Rattle.run_next_token.specs.Turns.{turned_quiet}
+use Rattle.run_turn.specs.Stages.{Other, none, stage_turned}
+use Rattle.run_turn.proofs.evaluate_if_at_hand.Goals.{After-operation, Else-operation-ne-EVALUATE, Start}
+use Rattle.run_turn.proofs.evaluate_if_at_hand.Goals as goal
+
+abbrev start : After-operation → Start
+start c = c.before.before.before.before
+
+-- the operation at hand
+operation_is : (c : After-operation) → let a = (start c).args in c.operation.result ≡ head_operation (get_or a.program.now a.run.at 0)
+operation_is c = c.operation.ensures ∙ ap head_operation c.word_at.ensures.0
+
+number : (c : Else-operation-ne-EVALUATE) → let a = (start (record { before = c.before.before; type_inv = record { program = c.before.before.shared_slice_known-1.given } })).args in head_operation (get_or a.program.now a.run.at 0) ≡ evaluate_operation
+number c = sym (operation_is (record { before = c.before.before; type_inv = record { program = c.before.before.shared_slice_known-1.given } })) ∙ c.if-operation-ne-EVALUATE.false
+
+-- it looks at nothing
+quiet : (c : Else-operation-ne-EVALUATE) → let a = (start (record { before = c.before.before; type_inv = record { program = c.before.before.shared_slice_known-1.given } })).args in looks_ahead (head_operation (get_or a.program.now a.run.at 0)) ≡ false
+quiet c = ap looks_ahead (number c)
+
+pub word_at-requires : goal.word_at-requires
+word_at-requires c = (bounds c.requires.1.held).inside
+
+pub returns-then-operation-ne-EVALUATE : goal.returns-then-operation-ne-EVALUATE
+returns-then-operation-ne-EVALUATE c = λ bound most us vs i ps even. none refl refl refl (λ e. c.if-operation-ne-EVALUATE.true (operation_is (record { before = c.before.before; type_inv = record { program = c.before.before.shared_slice_known-1.given } }) ∙ e))
+
+pub returns-then-run-eq-MOVES_LIMIT : goal.returns-then-run-eq-MOVES_LIMIT
+returns-then-run-eq-MOVES_LIMIT c = λ bound most us vs i ps even.
+    let e = c.before.before.before in
+    let a = (start (record { before = e.before; type_inv = record { program = e.before.shared_slice_known-1.given } })).args in
+    let m = a.registers.now in
+    turned_quiet bound most a.program.now us vs m ps a.run i even m ps (Blocked 35) (quiet (record { before = e; type_inv = record { program = e.shared_slice_known-1.given } })) (limit_answers (λ z. omega (arith, number (record { before = e; type_inv = record { program = e.shared_slice_known-1.given } }), z)) c.if-run-eq-MOVES_LIMIT.true ends)
+
+pub evaluate-requires : goal.evaluate-requires
+evaluate-requires c =
+    let e = c.before.before.before.before in
+    let p = (start (record { before = e.before; type_inv = record { program = e.before.shared_slice_known-1.given } })).requires in
+    let r = p.1 in
+    (p.0, record { grammar = r.grammar; lent = r.lent; config = r.config; held = r.held; limit = omega (arith, c.if-run-eq-MOVES_LIMIT.false, (bounds r.held).moves); operation = number (record { before = e; type_inv = record { program = e.shared_slice_known-1.given } }) })
+
+pub returns : goal.returns
+returns c = λ bound most us vs i ps even.
+    let v = c.before.before in
+    let e = v.before.before.before.before in
+    let a = (start (record { before = e.before; type_inv = record { program = e.before.shared_slice_known-1.given } })).args in
+    let m = a.registers.now in
+    stage_turned (Other a.program.now evaluate_operation) bound most a.program.now us vs i m ps a.run v.evaluate.new.registers ps v.evaluate.result
+    (turned_quiet bound most a.program.now us vs m ps a.run i even v.evaluate.new.registers ps v.evaluate.result (quiet (record { before = e; type_inv = record { program = e.shared_slice_known-1.given } })) (v.evaluate.ensures ps ends))
