@@ -5,7 +5,7 @@ use Rattle.meaning_house.specs.House.{HouseCalled}
 use Rattle.house_write.specs.Answers.{house_is}
 use Rattle.house_write.specs.declared.Written.{Written}
 use Rattle.house_write.specs.declared.Written.TheVariants.{Done, Short, Unusable}
-use Rattle.host_answers.specs.Housed.HouseNumbers.{Answered, Numbered}
+use Rattle.host_answers.specs.housed.HouseNumbers.{Answered, Numbered}
 
 -- the answer as three numbers, and the buffer
 abbrev pub Housed : ℕ → ℕ → ℕ → List ℕ → HouseCalled → Type 0

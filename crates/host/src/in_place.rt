@@ -17,8 +17,8 @@ pub fn fed(
     kinds: &[u8],
     values: &[i32],
 ) -> Called
-    ensures { effectIs result registers.new places.new program.new
-        ≡ performs program_of table.now program.old (recordIs «record») (stacksOf registers.old places.old) (Public.feed kinds.now values.now) }
+    ensures { effect_is result registers.new places.new program.new
+        ≡ performs program_of table.now program.old (record_is «record») (stacks_of registers.old places.old) (Public.feed kinds.now values.now) }
 {
     let mut held = record;
     let answer = engine::in_place::feed_in_place(

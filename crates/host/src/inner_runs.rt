@@ -40,7 +40,7 @@ pub extern "C" fn segment_inner_open(
     count: &mut u64,
 )
     ensures { BothPassedOn outer.new inner.new number.new count.new registers.new places.new program.new
-        (innerOpens program_of outer_table.now inner_table.now program.old (broughtIn outer.old) (stacksOf registers.old places.old)) }
+        (inner_opens program_of outer_table.now inner_table.now program.old (brought_in outer.old) (stacks_of registers.old places.old)) }
 {
     let opened = inner::open_inner(
         host_numbers::brought(outer),
@@ -68,7 +68,7 @@ pub extern "C" fn segment_inner_feed(
     count: &mut u64,
 )
     ensures { BothPassedOn outer.new inner.new number.new count.new registers.new places.new program.new
-        (innerPerforms program_of table.now program.old (broughtIn outer.old) (broughtIn inner.old) (stacksOf registers.old places.old) (Inner.engine (feed kinds.now values.now))) }
+        (inner_performs program_of table.now program.old (brought_in outer.old) (brought_in inner.old) (stacks_of registers.old places.old) (Inner.engine (feed kinds.now values.now))) }
 {
     let fed = inner::feed_inner(
         host_numbers::brought(outer),
@@ -97,8 +97,8 @@ pub extern "C" fn segment_inner_finish(
     count: &mut u64,
 )
     ensures { BothPassedOn outer.new inner.new number.new count.new registers.new places.new program.new
-        (innerPerforms program_of table.now program.old (broughtIn outer.old) (broughtIn inner.old) (stacksOf registers.old places.old) (Inner.engine finish))
-        × (value.new ≡ answerValue (innerPerforms program_of table.now program.old (broughtIn outer.old) (broughtIn inner.old) (stacksOf registers.old places.old) (Inner.engine finish)).answer) }
+        (inner_performs program_of table.now program.old (brought_in outer.old) (brought_in inner.old) (stacks_of registers.old places.old) (Inner.engine finish))
+        × (value.new ≡ answer_value (inner_performs program_of table.now program.old (brought_in outer.old) (brought_in inner.old) (stacks_of registers.old places.old) (Inner.engine finish)).answer) }
 {
     let ended = inner::finish_inner(
         host_numbers::brought(outer),
@@ -126,7 +126,7 @@ pub extern "C" fn segment_inner_give_up(
     count: &mut u64,
 )
     ensures { BothPassedOn outer.new inner.new number.new count.new registers.new places.new program.new
-        (innerPerforms program_of table.now program.old (broughtIn outer.old) (broughtIn inner.old) (stacksOf registers.old places.old) giveUp) }
+        (inner_performs program_of table.now program.old (brought_in outer.old) (brought_in inner.old) (stacks_of registers.old places.old) give_up) }
 {
     let given_up = inner::give_up(
         host_numbers::brought(outer),

@@ -23,7 +23,7 @@ pub extern "C" fn segment_preview(
     count: &mut u64,
 )
     ensures { PassedOn after.new number.new count.new scratch_registers.new scratch_places.new program.new
-        (previews program_of table.now program.old (broughtIn «record».now) (stacksOf registers.now places.now) (stacksOf scratch_registers.old scratch_places.old) kind value) }
+        (previews program_of table.now program.old (brought_in «record».now) (stacks_of registers.now places.now) (stacks_of scratch_registers.old scratch_places.old) kind value) }
 {
     let called = preview::preview(
         host_numbers::brought(record),
@@ -56,7 +56,7 @@ pub extern "C" fn segment_may(
     count: &mut u64,
 )
     ensures { MayPassedOn tokens.new number.new count.new scratch_registers.new scratch_places.new program.new
-        (mays program_of table.now program.old (broughtIn «record».now) (stacksOf registers.now places.now) (stacksOf scratch_registers.old scratch_places.old) value) }
+        (mays program_of table.now program.old (brought_in «record».now) (stacks_of registers.now places.now) (stacks_of scratch_registers.old scratch_places.old) value) }
 {
     let may = preview::may_follow(
         host_numbers::brought(record),

@@ -24,7 +24,7 @@ pub extern "C" fn segment_rank(
     offset: &mut u32,
 )
     ensures { RankPassedOn valued.new total.new entries.new number.new offset.new list.new registers.new places.new program.new
-        (rank_of program_of table.now program.old lengths.now kinds.now values.now list.old (stacksOf registers.old places.old)) }
+        (rank_of program_of table.now program.old lengths.now kinds.now values.now list.old (stacks_of registers.old places.old)) }
 {
     let answer = rank::rank(
         table, registers, places, program, list, kinds, values, lengths,

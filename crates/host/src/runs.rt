@@ -37,7 +37,7 @@ pub extern "C" fn segment_feed(
     count: &mut u64,
 )
     ensures { PassedOn «record».new number.new count.new registers.new places.new program.new
-        (performs program_of table.now program.old (broughtIn «record».old) (stacksOf registers.old places.old) (feed kinds.now values.now)) }
+        (performs program_of table.now program.old (brought_in «record».old) (stacks_of registers.old places.old) (feed kinds.now values.now)) }
 {
     let called = host_numbers::brought(record).feed(
         table, registers, places, program, kinds, values,
@@ -59,7 +59,7 @@ pub extern "C" fn segment_feed_in_place(
     count: &mut u64,
 )
     ensures { PassedOn «record».new number.new count.new registers.new places.new program.new
-        (performs program_of table.now program.old (broughtIn «record».old) (stacksOf registers.old places.old) (feed kinds.now values.now)) }
+        (performs program_of table.now program.old (brought_in «record».old) (stacks_of registers.old places.old) (feed kinds.now values.now)) }
 {
     let brought = host_numbers::brought(record);
     let called = crate::in_place::fed(brought, table, registers, places, program, kinds, values);
@@ -79,8 +79,8 @@ pub extern "C" fn segment_finish(
     count: &mut u64,
 )
     ensures { PassedOn «record».new number.new count.new registers.new places.new program.new
-        (performs program_of table.now program.old (broughtIn «record».old) (stacksOf registers.old places.old) finish)
-        × (value.new ≡ answerValue (performs program_of table.now program.old (broughtIn «record».old) (stacksOf registers.old places.old) finish).answer) }
+        (performs program_of table.now program.old (brought_in «record».old) (stacks_of registers.old places.old) finish)
+        × (value.new ≡ answer_value (performs program_of table.now program.old (brought_in «record».old) (stacks_of registers.old places.old) finish).answer) }
 {
     let called = host_numbers::brought(record).finish(table, registers, places, program);
     let answer = called.answer;

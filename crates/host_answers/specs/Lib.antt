@@ -1,5 +1,5 @@
 -- The answer of the writer of house order as lent numbers
-pub mod Housed
+pub mod housed
 -- The answer of a ranking as lent numbers
 pub mod ranked
 -- The answer of a check of a sheet as lent numbers

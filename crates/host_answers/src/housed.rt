@@ -1,5 +1,5 @@
 // The answer of the writer of house order as lent numbers.
-ghost use Rattle.host_answers.specs.Housed.HouseNumbers.{Numbered};
+ghost use Rattle.host_answers.specs.housed.HouseNumbers.{Numbered};
 
 use house_write::Written;
 

@@ -1,4 +1,6 @@
 // A run's record and answer as the numbers that a host lends.
+#![tactic(auto)]
+
 ghost use Rattle.std.specs.Prelude.{◌≡◌};
 ghost use Rattle.meaning_inner.specs.Inner.{register_base, place_base, with_status, with_kind};
 ghost use Rattle.records.specs.Records.{status_is, kind_is, state_is, answer_is};

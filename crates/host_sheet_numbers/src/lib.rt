@@ -1,4 +1,6 @@
 // The answer of the call that writes a tree's sheet as lent numbers.
+#![tactic(auto)]
+
 ghost use Rattle.host_sheet_numbers.specs.SheetLent.{answer_of, LentAs};
 
 use sheet_answers::Answer;

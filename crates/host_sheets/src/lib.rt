@@ -1,6 +1,8 @@
 // The writer of tree sheets for programs in C and Rust, as a library of its own beside `host`: it makes the engine's moves one by one, from
 // its own recursion. In one library with the loop over moves the compiler no longer puts the moves into that loop, and a run takes eight times
 // as long.
+#![tactic(auto)]
+
 ghost use Rattle.host_sheet_numbers.specs.SheetLent.{SheetLent};
 
 // Writes the records of the segment's tree: the number is 0, the count is that of the moves, and the length that of the sheet. On a refusal

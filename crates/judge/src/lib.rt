@@ -1,4 +1,6 @@
 // 02 (m): sheets from other tools. A sheet is accepted exactly if it describes the segment's well evaluated tree.
+#![tactic(auto)]
+
 ghost use Rattle.meaning_judge.specs.Judge.{JudgedAs};
 ghost use Rattle.judge_sheet.specs.Judged.{judgement_is};
 

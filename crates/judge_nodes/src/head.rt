@@ -5,7 +5,7 @@ ghost use Rattle.meaning.specs.Table.{byte};
 ghost use Rattle.judge_nodes.specs.head.Heads.{HeadOrNone};
 
 // What a node's own record says: its production, where the records of its children begin, and the tokens that it covers.
-#[derive(Drop)]
+#[derive(Clone, Copy)]
 pub enum Head {
     Found {
         production: usize,

@@ -1,4 +1,6 @@
 // A sheet against a table and a segment: a node goes through its children, and each child is a node again.
+#![tactic(auto)]
+
 ghost use Rattle.std.specs.Prelude.{◌≡◌, length};
 ghost use Rattle.meaning.specs.Limits.{positions_limit};
 ghost use Rattle.judge_nodes.specs.parts.Checked.{NodeReady, NodeEnds, ChildrenReady, ChildrenEnds};

@@ -13,14 +13,14 @@ ghost use Rattle.judge_nodes.specs.parts.Checked.{fields_of, TokenEnds, subtree_
 use crate::head::Head;
 
 // Where the sheet goes on after a tree, and where the tokens do.
-#[derive(Drop)]
+#[derive(Clone, Copy)]
 pub enum Answer {
     Fits { next: usize, end: usize },
     Wrong,
 }
 
 // A tree to be looked for: the sheet from `at` on, the tokens from `from` on, its symbol, and its depth at most.
-#[derive(Drop)]
+#[derive(Clone, Copy)]
 pub struct Subtree {
     pub at: usize,
     pub from: usize,
@@ -29,7 +29,7 @@ pub struct Subtree {
 }
 
 // A node by its own record: its production, where the records of its children begin, the tokens before it and those that it covers, and the depth that is left to its children.
-#[derive(Drop)]
+#[derive(Clone, Copy)]
 pub struct Node {
     pub production: usize,
     pub behind: usize,
@@ -39,7 +39,7 @@ pub struct Node {
 }
 
 // What is known before the children of a node: the answer, or the node.
-#[derive(Drop)]
+#[derive(Clone, Copy)]
 pub enum Begun {
     Over(Answer),
     Inside(Node),
@@ -55,7 +55,7 @@ pub fn holds(
     marks: &[usize],
     p: usize,
 ) -> bool
-    requires { (p < productionsLimit) × (fieldsFrom rows.now offsets.now p ≤ stretchEnd table.now offsets.now (rowCount rows.now) p) × (stretchEnd table.now offsets.now (rowCount rows.now) p ≤ length table.now)
+    requires { (p < productions_limit) × (fields_from rows.now offsets.now p ≤ stretch_end table.now offsets.now (row_count rows.now) p) × (stretch_end table.now offsets.now (row_count rows.now) p ≤ length table.now)
         × Listed (fields_of table.now rows.now offsets.now p) × HasRow rows.now p }
     ensures { (x : Listed (fields_of table.now rows.now offsets.now p)) → result ≡ listed_true (read_at sheet.now values.now marks.now) x }
 {

@@ -1,4 +1,6 @@
 // A sheet under an accepted table: it describes a tree of the start symbol over all tokens, and nothing is after it.
+#![tactic(auto)]
+
 ghost use Rattle.std.specs.Prelude.{◌<◌};
 ghost use Rattle.judge_sheet.specs.Judged.{RootSettled, SheetReady, SheetSettled};
 
@@ -6,7 +8,7 @@ use judge_nodes::parts::Answer;
 use limits::DEPTH;
 
 // The root's value; kinds and values are not equally many (38); the sheet is not accepted (43); or the table is refused.
-#[derive(Drop)]
+#[derive(Clone, Copy)]
 pub enum Judgement {
     Value(i64),
     Uneven,

@@ -8,7 +8,7 @@ use limits::SEGMENT;
 use records::{Answer, Handed};
 
 // What a candidate answers, and how many cells of each stack may not be clear after it.
-#[derive(Drop)]
+#[derive(Clone, Copy)]
 pub struct Candidate {
     pub answer: Answer,
     pub registers: usize,

@@ -1,4 +1,6 @@
 // Ranked suggestions, 02 (b): candidate segments under one table, evaluated and listed, highest value first.
+#![tactic(auto)]
+
 ghost use Rattle.std.specs.Prelude.{◌≡◌, true, length};
 ghost use Rattle.meaning.specs.Program.{program_of};
 ghost use Rattle.meaning.specs.PublicCalls.{stacks_of};
@@ -48,8 +50,8 @@ pub fn rank(
     values: &[i32],
     lengths: &[u32],
 ) -> Ranked
-    ensures { rankIs result list.new registers.new places.new program.new
-        ≡ rank_of program_of table.now program.old lengths.now kinds.now values.now list.old (stacksOf registers.old places.old) }
+    ensures { rank_is result list.new registers.new places.new program.new
+        ≡ rank_of program_of table.now program.old lengths.now kinds.now values.now list.old (stacks_of registers.old places.old) }
 {
     if rank_suits::in_order(lengths, kinds, list) {
         return match prepare::program_of(table, program) {

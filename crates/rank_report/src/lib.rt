@@ -1,4 +1,6 @@
 // What a ranking answers, and the report of the entries: in order, with how many are valued and their total.
+#![tactic(auto)]
+
 ghost use Rattle.std.specs.Prelude.{◌*◌, ◌≤◌, length};
 ghost use Rattle.meaning.specs.Limits.{candidates_limit};
 ghost use Rattle.theory_ranking.specs.Entries.{Distinct, Ranged, entries_of};
@@ -9,7 +11,7 @@ pub mod entries;
 pub mod sort;
 pub mod totals;
 
-#[derive(Drop)]
+#[derive(Clone, Copy)]
 pub enum Ranked {
     // How many were valued, the total of their values, the number of entries written.
     Done {

@@ -1,4 +1,6 @@
 // 37 of a ranking, 02 (b): whether the lengths of the candidates, their tokens and the list suit each other.
+#![tactic(auto)]
+
 ghost use Rattle.std.specs.Prelude.{◌≤◌, ◌<◌, ◌≡◌, length, get_or};
 ghost use Rattle.meaning.specs.Limits.{candidates_limit};
 ghost use Rattle.meaning.specs.Base.{total};

@@ -6,8 +6,7 @@ use Rattle.meaning.specs.Base.{all}
 use Rattle.meaning.specs.Rules.{four_bytes}
 use Rattle.theory_base.specs.Members.{at_all}
 use Rattle.meaning.specs.Table.{grammar_of}
-use Rattle.meaning.specs.Judgement.{accepted}
-use Rattle.meaning.specs.PublicCalls.{usable, area_length}
+use Rattle.meaning.specs.PublicCalls.{area_length}
 use Rattle.meaning_sheet.specs.SheetCalls.{Sheets, WhenChecked}
 use Rattle.theory_answers.specs.Called.{usable_accepted}
 use Rattle.theory_complete.specs.CompleteUnique.{only}

@@ -1,4 +1,6 @@
 // 02 (i): a segment's tree as a sheet of records.
+#![tactic(auto)]
+
 ghost use Rattle.std.specs.Prelude.{◌≤◌, ◌<◌, min, ◌≡◌, length, get_or, T};
 ghost use Rattle.meaning.specs.Limits.{registers_limit, places_limit};
 ghost use Rattle.meaning.specs.Base.{all};

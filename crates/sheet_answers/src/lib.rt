@@ -1,5 +1,7 @@
 // What the call that writes a tree's sheet answers.
-#[derive(Drop)]
+#![tactic(auto)]
+
+#[derive(Clone, Copy)]
 pub enum Answer {
     // The segment's value, the moves, and the length of the sheet.
     Value(i64, u64, u64),

@@ -1,4 +1,6 @@
 // Whether a sheet has room for a tree's records.
+#![tactic(auto)]
+
 ghost use Rattle.std.specs.Prelude.{◌≡◌};
 ghost use Rattle.sheet_room.specs.Room.{refusal_for};
 

@@ -1,4 +1,6 @@
 // A window over the values of the last finished segments, kept in a lent buffer: docs/WINDOW.md states its cells.
+#![tactic(auto)]
+
 ghost use Rattle.std.specs.Prelude.{◌≡◌, true};
 ghost use Rattle.meaning.specs.Value.{in_range};
 ghost use Rattle.meaning_window.specs.Window.{opens_window, brings_value, brings_refusal};
@@ -13,7 +15,7 @@ use window_found::{Checked, Found};
 use window_kept::check;
 use window_push::renew;
 
-#[derive(Drop)]
+#[derive(Clone, Copy)]
 pub enum WindowAnswer {
     Totals { total: i64, largest: i64 },
     // No value yet: total 0, and no largest.

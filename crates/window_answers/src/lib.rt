@@ -1,4 +1,6 @@
 // A later call on a window brings a finish's answer: a value enters, anything else changes nothing and gets total and largest as they stand.
+#![tactic(auto)]
+
 ghost use Rattle.std.specs.Prelude.{◌≡◌};
 ghost use Rattle.meaning_window.specs.Window.{brings_answer};
 ghost use Rattle.records.specs.Records.{answer_is};

@@ -1,4 +1,6 @@
 // Cells of a window's buffer: small numbers read from them, and tests and copies of stretches.
+#![tactic(auto)]
+
 ghost use Rattle.std.specs.Prelude.{◌≤◌, ◌≡◌, map, length, get_or, take, pos};
 ghost use Rattle.meaning.specs.Base.{all};
 ghost use Rattle.meaning_window.specs.Window as Window;

@@ -1,7 +1,8 @@
 // What the check of a window's buffer finds on its walk from the newest value to the oldest. No code: types, and why the walk finds it.
+#![tactic(auto)]
 
 // What the check has found in a well kept buffer, with a value to bring: the slots of its leaders are the last of the 65 lent cells.
-#[derive(Drop)]
+#[derive(Clone, Copy)]
 pub struct Found {
     pub size: usize,
     pub held: usize,
@@ -15,14 +16,14 @@ pub struct Found {
     pub from: usize,
 }
 
-#[derive(Drop)]
+#[derive(Clone, Copy)]
 pub enum Checked {
     Kept(Found),
     Wrong,
 }
 
 // The numbers in a window's first cells, but for its size.
-#[derive(Drop)]
+#[derive(Clone, Copy)]
 pub struct Numbers {
     pub held: usize,
     pub next: usize,
@@ -31,7 +32,7 @@ pub struct Numbers {
 }
 
 // A walk from the newest value to the oldest, with a value to bring.
-#[derive(Drop)]
+#[derive(Clone, Copy)]
 pub struct Walk {
     // The slot looked at, and its value.
     pub slot: usize,
@@ -46,7 +47,7 @@ pub struct Walk {
     pub best: i64,
 }
 
-#[derive(Drop)]
+#[derive(Clone, Copy)]
 pub enum Turn {
     On(Walk),
     Wrong,

@@ -1,5 +1,7 @@
 // Whether an opening and values after it can have left a window's buffer so, and what the window is with one more value: by one walk that
 // reads no cell twice.
+#![tactic(auto)]
+
 ghost use Rattle.std.specs.Prelude.{◌+◌, ◌*◌, ◌≤◌, ◌≡◌, true, length};
 ghost use Rattle.meaning.specs.Value.{in_range};
 ghost use Rattle.meaning_window.specs.Window.{place_fits, window_limit, past_window};

@@ -1,4 +1,6 @@
 // One more value in a well kept buffer: the oldest leaves where the window is full, and the leaders are those that still lead and the value's slot.
+#![tactic(auto)]
+
 ghost use Rattle.std.specs.Prelude.{◌+◌, ◌<◌, ◌≤◌, ◌≡◌, length};
 ghost use Rattle.meaning_window.specs.Window as Window;
 ghost use Rattle.meaning_window.specs.Window.{leader_cells, size_in_value, next_in, written, values_with, window_limit, past_window};

@@ -1,4 +1,6 @@
 // The walk along the values that a window holds, and what is found at its end.
+#![tactic(auto)]
+
 ghost use Rattle.std.specs.Prelude.{◌≡◌, true, length};
 ghost use Rattle.meaning_window.specs.Window.{past_window};
 ghost use Rattle.meaning.specs.Value.{in_range};

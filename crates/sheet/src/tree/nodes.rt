@@ -12,7 +12,7 @@ use run_moves::Run;
 const SEGMENT: usize = limits::SEGMENT as usize;
 
 // How many attributes a nonterminal has: inherited ones, and all.
-#[derive(Drop)]
+#[derive(Clone, Copy)]
 pub struct Counts {
     pub inherited: usize,
     pub total: usize,

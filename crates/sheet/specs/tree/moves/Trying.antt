@@ -18,7 +18,7 @@ Tried g ws lent l c m ps (Failed run k) = (next g lent l c ≡ blocked k) × Hel
 abbrev pub Tries : List ℕ → List ℤ → List ℕ → Run → Coming → List ℤ → List ℕ → Ended.Ended → Type 0
 Tries ws m₀ ps₀ run₀ l m ps e = (g : Grammar) (lent : Lent) (c : Config) → Held g ws lent m₀ ps₀ run₀ c → IsAhead g l → Tried g ws lent l c m ps e
 
-module _ {ws : List ℕ} {m₀ : List ℤ} {ps₀ : List ℕ} {run₀ : Run} {l : Coming} (m : List ℤ) (ps : List ℕ) where
+module _ {ws : List ℕ} {m₀ : List ℤ} {ps₀ : List ℕ} {run₀ : Run} (l : Coming) (m : List ℤ) (ps : List ℕ) where
   pub tried_moved : (run : Run) → Answers ws m₀ ps₀ run₀ l m ps (Moved run) → Tries ws m₀ ps₀ run₀ l m ps (Stopped run)
   tried_moved run a g lent c h ok = a g lent c h ok
 
