@@ -1,4 +1,4 @@
-/* The segment engine for C programs: link with libhost.a, which `rt staticlib host` writes to target/staticlib.
+/* The segment engine for C programs: link with libhost.a, which `hosts/build` writes to target/staticlib.
  *
  * A table describes a grammar; a run evaluates one segment, a list of tokens, under it. A token is a one-byte kind and, where its kind
  * carries one, a value. A run is opened, fed any number of times and finished; in between an inner run may evaluate another segment, say
@@ -248,7 +248,7 @@ void segment_rank(const uint8_t *table, size_t table_length, int64_t *registers,
  * *value: the segment's value, or 0 on a refusal.
  * *count: the moves that a run makes; on a refusal the tokens read, or the table's offset.
  * *length: the length of what was written, or 0 on a refusal.
- * This function alone is in libhost_sheets.a, which `rt staticlib host_sheets` writes. */
+ * This function alone is in libhost_sheets.a, which `hosts/build` writes beside it. */
 void segment_sheet(const uint8_t *table, size_t table_length, const uint8_t *kinds, size_t kinds_length, const int32_t *values,
                    size_t values_length, size_t registers, size_t places, uint8_t *sheet, size_t sheet_length, uint32_t *number,
                    int64_t *value, uint64_t *count, uint64_t *length);

@@ -1,5 +1,5 @@
-// Links the proved engine, the archives that `rt staticlib host` and `rt staticlib host_sheets` write. SEGMENT_LIB_DIR names the folder
-// they are in; without it the crate looks where they stand in its own repository.
+// Links the proved engine, the archives that `hosts/build` makes. SEGMENT_LIB_DIR names the folder they are in; without it the crate looks
+// where they stand in its own repository.
 use std::path::{Path, PathBuf};
 
 fn main() {
@@ -12,7 +12,7 @@ fn main() {
         println!("cargo:rerun-if-changed={}", library.display());
         if !library.is_file() {
             let folder = folder.display();
-            eprintln!("lib{name}.a not found in {folder}: run `rt staticlib {name}` in the engine's repository, or set SEGMENT_LIB_DIR");
+            eprintln!("lib{name}.a not found in {folder}: run `hosts/build` in the engine's repository, or set SEGMENT_LIB_DIR");
             std::process::exit(1);
         }
         println!("cargo:rustc-link-lib=static={name}");
