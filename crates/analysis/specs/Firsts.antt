@@ -1,5 +1,5 @@
 -- The first n numbers as one word, and words that have all that stands in the productions.
-use Rattle.std.specs.Prelude.{ℕ, zero, ◌+◌, ◌-◌, ◌/◌, ◌%◌, ◌^◌, ◌≤◌, ◌<◌, ◌≡◌, refl, List, [], ◌∷◌, T, eqb, drop}
+use Rattle.std.specs.Prelude.{ℕ, ◌+◌, ◌-◌, ◌/◌, ◌%◌, ◌^◌, ◌≤◌, ◌<◌, ◌≡◌, refl, List, [], ◌∷◌, T, eqb, drop}
 use Rattle.std.proofs.Common.{zero-le, arith, sym, ap, ◌∙◌, ⊎_elim, lit<, eqb→eq, drop-drop}
 use Rattle.std.specs.Int.Bits.{bit_or}
 use Rattle.meaning.specs.Base.{all, any, count_from}

@@ -1,5 +1,5 @@
 -- FOLLOW over the rows: from the rest of a right side, and from what comes after the left side where the rest derives nothing.
-use Rattle.std.specs.Prelude.{ℕ, zero, ◌+◌, ◌-◌, ◌^◌, ◌≤◌, ◌<◌, ◌≡◌, refl, Bool, true, false, cond, ◌&&◌, ◌||◌, List, [], ◌∷◌, T, ltb, get_or, length, drop, replicate}
+use Rattle.std.specs.Prelude.{ℕ, ◌+◌, ◌-◌, ◌^◌, ◌≤◌, ◌<◌, ◌≡◌, refl, Bool, true, false, cond, ◌&&◌, ◌||◌, List, [], ◌∷◌, T, ltb, get_or, length, drop, replicate}
 use Rattle.std.proofs.Common.{zero-le, arith, sym, ap, ◌∙◌, ⊎_elim, lit<, ltb→lt, lt→ltb}
 use Rattle.std.proofs.Math.Decide.{dec_lt}
 use Rattle.std.proofs.Math.Bool.{or-false}

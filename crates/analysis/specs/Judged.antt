@@ -1,5 +1,5 @@
 -- What the code finds is what 01's definitions compute: the lowest useless and left recursive nonterminal, and the sets of the productions.
-use Rattle.std.specs.Prelude.{ℕ, ◌≡◌, Bool, true, ◌&&◌, not, List, T, get_or, replicate}
+use Rattle.std.specs.Prelude.{ℕ, ◌≡◌, Bool, true, ◌&&◌, not, List, T, get_or, replicate, Option}
 use Rattle.std.proofs.Common.{ap, ap₂, ◌∙◌}
 use Rattle.meaning.specs.Limits.{nonterminals_limit}
 use Rattle.meaning.specs.Grammar.{Grammar, production_at, nonterminal_count}
@@ -13,7 +13,7 @@ use Rattle.set_words.specs.Views.{members, sees, Within, WithinAll, ClosedAt, Re
 use Rattle.set_words.specs.Growth.{Settled, SetsTo, none_in}
 use Rattle.analysis.specs.Tables.{SettledTable}
 use Rattle.analysis.specs.Follows.{Followed}
-use Rattle.analysis.specs.Numbers.{Found, found_same}
+use Rattle.analysis.specs.Lowest.{Lowest, lowest_same}
 use Rattle.analysis.specs.Starts.{starts_by}
 use Rattle.analysis.specs.Agreeing.{Marks, counted, productive_marks, reachable_below}
 use Rattle.analysis.specs.TokenAgreeing.{first_holds, follow_holds, starts_is}
@@ -22,14 +22,14 @@ use Rattle.analysis.specs.Finding.{is_useless}
 
 module _ {rows : List ℕ} {count : ℕ} {g : Grammar} (r : ImageOf rows count g) where
   pub useless_found :
-      (x reached live n : ℕ) → set_of x ≡ singleton g.start → Settled (Within (ReachAt rows) 0 count) x reached → Settled (Within (ClosedAt true rows) 0 count) 0 live
-      → Found (λ i. not (members reached i && members live i)) (nonterminal_count g) n → Found (is_useless g) (nonterminal_count g) n
+      (x reached live : ℕ) (n : Option ℕ) → set_of x ≡ singleton g.start → Settled (Within (ReachAt rows) 0 count) x reached → Settled (Within (ClosedAt true rows) 0 count) 0 live
+      → Lowest (λ i. not (members reached i && members live i)) (nonterminal_count g) n → Lowest (is_useless g) (nonterminal_count g) n
   useless_found x reached live n one a b =
-      found_same (λ i. not (members reached i && members live i)) (is_useless g) (nonterminal_count g) n
+      lowest_same (λ i. not (members reached i && members live i)) (is_useless g) (nonterminal_count g) n
       (λ j l. ap₂ (λ (p q : Bool). not (p && q)) (reachable_below r x reached one a j l) ((productive_marks r live b).is j))
 
-  pub recursive_found : (null n : ℕ) (t : List ℕ) → Marks null (nullable g) → SettledTable (WithinAll (LeadAt (members null) rows) 0 count) (replicate nonterminals_limit 0) t → Found (λ i. sees t i i) (nonterminal_count g) n → Found (is_left_recursive g) (nonterminal_count g) n
-  recursive_found null n t gone st = found_same (λ i. sees t i i) (is_left_recursive g) (nonterminal_count g) n (λ j l. recursive_is r null gone t st j)
+  pub recursive_found : (null : ℕ) (n : Option ℕ) (t : List ℕ) → Marks null (nullable g) → SettledTable (WithinAll (LeadAt (members null) rows) 0 count) (replicate nonterminals_limit 0) t → Lowest (λ i. sees t i i) (nonterminal_count g) n → Lowest (is_left_recursive g) (nonterminal_count g) n
+  recursive_found null n t gone st = lowest_same (λ i. sees t i i) (is_left_recursive g) (nonterminal_count g) n (λ j l. recursive_is r null gone t st j)
 
   -- FOLLOW is needed only where some nonterminal derives nothing
   pub starts_found : (null : ℕ) (f t sets : List ℕ) → Marks null (nullable g) → SettledTable (WithinAll (FrontAt true (members null) rows) 0 count) (replicate nonterminals_limit 0) f

@@ -20,6 +20,8 @@ pub mod TokenAgreeing
 pub mod RecursionAgreeing
 -- Tests of the numbers from one number on: all, some, and the lowest
 pub mod Numbers
+-- The lowest of the first numbers that passes a test, where one does
+pub mod Lowest
 -- FIRST-then-FOLLOW over the tables that the code keeps
 pub mod Starts
 -- The first n numbers as one word, and words that have all that stands in the productions

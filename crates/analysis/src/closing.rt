@@ -16,7 +16,7 @@ use outline::left_of;
 fn lies_in(part: NonterminalSet, whole: NonterminalSet) -> bool
     ensures { Covers part.0 whole.0 result }
 {
-    part.union(whole).same(whole)
+    part.union(whole) == whole
 }
 
 // The set, with the left side of production k where all its symbols are in the set, or tokens that are free to stand.
@@ -32,11 +32,11 @@ fn close_by(
     ensures { (count : ℕ) → Image rows.now count → k < count
         → Grown (Within (ClosedAt (tokens_in free.0) rows.now) 0 count) (ClosedAt (tokens_in free.0) rows.now k) set.0 result.0 }
 {
-    let right = rights[k];
-    if lies_in(NonterminalSet(right), set.union(free)) {
-        return set.union(NonterminalSet::of_nonterminal(left_of(rows, k)));
+    if lies_in(NonterminalSet(rights[k]), set.union(free)) {
+        set.union(NonterminalSet::of_nonterminal(left_of(rows, k)))
+    } else {
+        set
     }
-    set
 }
 
 // One round over the productions, the last first.
@@ -51,15 +51,14 @@ fn close_round(
     ensures { Grown (Within (ClosedAt (tokens_in free.0) rows.now) 0 count) (Within (ClosedAt (tokens_in free.0) rows.now) 0 count) set.0 result.0 }
 {
     let mut next = set;
-    let mut k = count;
-    while 0 < k {
-        k -= 1;
+    for k in (0..count).rev() {
         next = close_by(rows, rights, k, next, free);
     }
     next
 }
 
 // One round the other way, the first production first.
+// Kept: apart from `close_round`; one function over either order would take the iterator as a parameter, and say more than these three lines.
 fn close_round_back(
     rows: &[u8; ROWS],
     count: usize,
@@ -71,10 +70,8 @@ fn close_round_back(
     ensures { Grown (Within (ClosedAt (tokens_in free.0) rows.now) 0 count) (Within (ClosedAt (tokens_in free.0) rows.now) 0 count) set.0 result.0 }
 {
     let mut next = set;
-    let mut k: usize = 0;
-    while k < count {
+    for k in 0..count {
         next = close_by(rows, rights, k, next, free);
-        k += 1;
     }
     next
 }
@@ -101,16 +98,17 @@ fn closure(
     ensures { LeftsIn rows.now count all.0 → Settled (Within (ClosedAt (tokens_in free.0) rows.now) 0 count) 0 result.0 }
 {
     let mut set = NonterminalSet::EMPTY;
+    // Kept: rounds until one changes nothing, so nothing counts them.
     loop {
         let next = close_round(rows, count, rights, set, free);
-        if next.same(set) {
+        if next == set {
             return set;
         }
-        if next.same(all) {
+        if next == all {
             return next;
         }
         let last = close_round_back(rows, count, rights, next, free);
-        if last.same(next) {
+        if last == next {
             return next;
         }
         set = last;

@@ -8,7 +8,7 @@ ghost use Rattle.outline.specs.Images.{Image, ImageOf};
 ghost use Rattle.set_words.specs.Views.{members, right_by, ReachAt, Imaged, Within};
 ghost use Rattle.set_words.specs.Growth.{Grown, Settled, SetsTo};
 ghost use Rattle.analysis.specs.Firsts.{RightsIn};
-ghost use Rattle.analysis.specs.Numbers.{Found};
+ghost use Rattle.analysis.specs.Lowest.{Lowest};
 ghost use Rattle.analysis.specs.Finding.{is_useless};
 
 use analysis::closing::{first_of, productive};
@@ -27,11 +27,11 @@ fn reach_by(
     requires { Imaged rows.now k × ((n : ℕ) → members (get_or rights.now k 0) n ≡ right_by rows.now k n) }
     ensures { (count : ℕ) → k < count → Grown (Within (ReachAt rows.now) 0 count) (ReachAt rows.now k) set.0 result.0 }
 {
-    if !set.has(left_of(rows, k)) {
-        return set;
+    if set.has(left_of(rows, k)) {
+        set.union(NonterminalSet(rights[k]))
+    } else {
+        set
     }
-    let right = rights[k];
-    set.union(NonterminalSet(right))
 }
 
 // One round over the productions.
@@ -45,15 +45,14 @@ fn reach_round(
     ensures { Grown (Within (ReachAt rows.now) 0 count) (Within (ReachAt rows.now) 0 count) set.0 result.0 }
 {
     let mut next = set;
-    let mut k: usize = 0;
-    while k < count {
+    for k in 0..count {
         next = reach_by(rows, rights, k, next);
-        k += 1;
     }
     next
 }
 
 // One round the other way, the last production first.
+// Kept: apart from `reach_round`; one function over either order would take the iterator as a parameter, and say more than these three lines.
 fn reach_round_back(
     rows: &[u8; ROWS],
     count: usize,
@@ -64,9 +63,7 @@ fn reach_round_back(
     ensures { Grown (Within (ReachAt rows.now) 0 count) (Within (ReachAt rows.now) 0 count) set.0 result.0 }
 {
     let mut next = set;
-    let mut k = count;
-    while 0 < k {
-        k -= 1;
+    for k in (0..count).rev() {
         next = reach_by(rows, rights, k, next);
     }
     next
@@ -85,34 +82,34 @@ pub fn reach(
     ensures { RightsIn rows.now count all.0 → Settled (Within (ReachAt rows.now) 0 count) first.0 result.0 }
 {
     let mut set = first;
+    // Kept: rounds until one changes nothing, so nothing counts them.
     loop {
         let next = reach_round(rows, count, rights, set);
-        if next.same(set) {
+        if next == set {
             return set;
         }
-        if next.same(all) {
+        if next == all {
             return next;
         }
         let last = reach_round_back(rows, count, rights, next);
-        if last.same(next) {
+        if last == next {
             return next;
         }
         set = last;
     }
 }
 
-// 11: the lowest nonterminal that is unreachable or derives no token string; `nonterminals` where there is none. From the words of the right
-// sides.
+// 11: the lowest nonterminal that is unreachable or derives no token string. From the words of the right sides.
 pub fn useless(
     rows: &[u8; ROWS],
     count: usize,
     nonterminals: usize,
     start: u8,
     rights: &[u64; PRODUCTIONS],
-) -> usize
+) -> Option<usize>
     requires { Image rows.now count × (nonterminals ≤ nonterminals_limit) × (start < nonterminals_limit) × SetsTo (right_by rows.now) count rights.now }
     ensures { (g : Grammar) → ImageOf rows.now count g → nonterminals ≡ nonterminal_count g → start ≡ g.start
-        → Found (is_useless g) (nonterminal_count g) result }
+        → Lowest (is_useless g) (nonterminal_count g) result }
 {
     let all = first_of(nonterminals);
     let live = productive(rows, count, rights, all);

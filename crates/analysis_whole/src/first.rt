@@ -23,27 +23,23 @@ pub fn begins(
     requires { Imaged rows.now k }
     ensures { (u : ℕ) → members result.0 u ≡ opens true (members null.0) (sees table.now u) u (members after.0 u) (right_at rows.now k) }
 {
-    let n = size_of(rows, k);
     let mut out = TokenSet::EMPTY;
-    let mut i: usize = 0;
-    while i < n {
+    for i in 0..size_of(rows, k) {
         let s = symbol_of(rows, k, i);
         if s < 128 {
             return out.union(TokenSet::of_token(s));
         }
-        let a = (s - 128) as usize;
-        let own = table[a];
-        out = out.union(TokenSet(own));
-        if !null.has(s - 128) {
+        let a = s - 128;
+        out = out.union(TokenSet(table[a as usize]));
+        if !null.has(a) {
             return out;
         }
-        i += 1;
     }
     out.union(after)
 }
 
 // What stands at the front of a right side behind symbols that derive nothing: a token, or none, and nonterminals.
-#[derive(Clone, Copy)]
+#[derive(Clone, Copy, Debug, PartialEq, Eq)]
 pub struct Front {
     pub token: TokenSet,
     pub heads: NonterminalSet,
@@ -54,29 +50,26 @@ fn front_of(rows: &[u8; ROWS], k: usize, null: NonterminalSet) -> Front
     requires { Imaged rows.now k }
     ensures { FrontOf (members null.0) (right_at rows.now k) result.token.0 result.heads.0 }
 {
-    let n = size_of(rows, k);
     let mut heads = NonterminalSet::EMPTY;
-    let mut i: usize = 0;
-    while i < n {
+    for i in 0..size_of(rows, k) {
         let s = symbol_of(rows, k, i);
         if s < 128 {
             return Front {
                 token: TokenSet::of_token(s),
-                heads: heads,
+                heads,
             };
         }
         heads = heads.union(NonterminalSet::of_nonterminal(s - 128));
         if !null.has(s - 128) {
             return Front {
                 token: TokenSet::EMPTY,
-                heads: heads,
+                heads,
             };
         }
-        i += 1;
     }
     Front {
         token: TokenSet::EMPTY,
-        heads: heads,
+        heads,
     }
 }
 
@@ -92,13 +85,11 @@ fn edges_of(
     ensures edges { Gathers (heads_by (members null.0) rows.now) rows.now count edges.new }
     ensures sets { Gathers (leading_by (members null.0) rows.now) rows.now count sets.new }
 {
-    let mut k: usize = 0;
-    while k < count {
+    for k in 0..count {
         let left = left_of(rows, k) as usize;
         let front = front_of(rows, k, null);
         add(edges, left, front.heads.0);
         add(sets, left, front.token.0);
-        k += 1;
     }
 }
 

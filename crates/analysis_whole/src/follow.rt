@@ -1,5 +1,5 @@
 // FOLLOW: what comes after a nonterminal from the rest of a right side, then along the edges from the tails of right sides to left sides.
-ghost use Rattle.std.specs.Prelude.{◌≡◌, true, false, cond, ℕ, ◌<◌, ◌≤◌, length, replicate};
+ghost use Rattle.std.specs.Prelude.{◌≡◌, true, false, cond, ℕ, ◌<◌, ◌≤◌, length, replicate, IfSome};
 ghost use Rattle.meaning.specs.Limits.{nonterminals_limit};
 ghost use Rattle.meaning.specs.Table.{symbol_of};
 ghost use Rattle.outline.specs.Images.{Image, symbol_bytes};
@@ -21,12 +21,9 @@ fn begin_with(s: u8, null: NonterminalSet, first: &[u64; NONTERMINALS], rest: To
     if s < 128 {
         return TokenSet::of_token(s);
     }
-    let a = (s - 128) as usize;
-    let own = first[a];
-    if null.has(s - 128) {
-        return TokenSet(own).union(rest);
-    }
-    TokenSet(own)
+    let a = s - 128;
+    let own = TokenSet(first[a as usize]);
+    if null.has(a) { own.union(rest) } else { own }
 }
 
 // Adds a set to the entry of a symbol in a table, and another to its entry in the edges. A token has no entry.
@@ -44,8 +41,9 @@ fn mark(
     if s < 128 {
         return;
     }
-    add(table, (s - 128) as usize, rest.0);
-    add(edges, (s - 128) as usize, up.0);
+    let a = (s - 128) as usize;
+    add(table, a, rest.0);
+    add(edges, a, up.0);
 }
 
 // What is handed on past a symbol: the same where it derives nothing, else none.
@@ -53,26 +51,27 @@ fn onward(s: u8, null: NonterminalSet, up: NonterminalSet) -> NonterminalSet
     requires { s < symbol_bytes }
     ensures { result.0 ≡ cond (fit false (members null.0) (symbol_of s)) up.0 0 }
 {
-    if s < 128 {
+    if s < 128 || !null.has(s - 128) {
         return NonterminalSet::EMPTY;
     }
-    if null.has(s - 128) {
-        return up;
-    }
-    NonterminalSet::EMPTY
+    up
 }
 
-// A symbol that left both sets as they were: another one like it would change nothing. Else 255, which is none.
-fn still(s: u8, rest: TokenSet, next: TokenSet, up: NonterminalSet, on: NonterminalSet) -> u8
-    ensures { result < symbol_bytes → (result ≡ s) × (next.0 ≡ rest.0) × (on.0 ≡ up.0) }
+// A symbol that left both sets as they were: another one like it would change nothing.
+fn still(
+    s: u8,
+    rest: TokenSet,
+    next: TokenSet,
+    up: NonterminalSet,
+    on: NonterminalSet,
+) -> Option<u8>
+    ensures { IfSome result (λ q. (q ≡ s) × (next.0 ≡ rest.0) × (on.0 ≡ up.0)) }
 {
-    if next.0 != rest.0 {
-        return 255;
+    if next == rest && on == up {
+        Some(s)
+    } else {
+        None
     }
-    if on.0 != up.0 {
-        return 255;
-    }
-    s
 }
 
 // One walk along the right side of production k, from its end: adds what comes after each nonterminal from the symbols behind it, and the left
@@ -93,12 +92,10 @@ fn behind_by(
     let left = NonterminalSet::of_nonterminal(left_of(rows, k));
     let mut up = left;
     let mut rest = TokenSet::EMPTY;
-    let mut quiet: u8 = 255;
-    let mut i = size_of(rows, k);
-    while 0 < i {
-        i -= 1;
+    let mut quiet = None;
+    for i in (0..size_of(rows, k)).rev() {
         let s = symbol_of(rows, k, i);
-        if s == quiet {
+        if quiet == Some(s) {
             continue;
         }
         mark(table, edges, s, rest, up);
@@ -123,10 +120,8 @@ fn behinds(
     ensures { Behind (members null.0) first.now rows.now count (BasesTo (members null.0) first.now rows.now count) (EdgesTo (members null.0) rows.now count)
         table.old edges.old table.new edges.new }
 {
-    let mut k: usize = 0;
-    while k < count {
+    for k in 0..count {
         behind_by(rows, k, null, first, table, edges);
-        k += 1;
     }
 }
 

@@ -42,23 +42,15 @@ pub fn analyse(
     ensures { (g : Grammar) → ImageOf rows.now count g → nonterminals ≡ nonterminal_count g → start ≡ g.start
         → Analysed g result.number result.index sets.new }
 {
-    let useless_at = useless(rows, count, nonterminals, start, sets);
-    if useless_at < nonterminals {
-        return Analysis {
-            number: 11,
-            index: useless_at,
-        };
+    if let Some(index) = useless(rows, count, nonterminals, start, sets) {
+        return Analysis { number: 11, index };
     }
     let null = nullable(rows, count, sets);
     let mut led = [0u64; NONTERMINALS];
     let mut first = [0u64; NONTERMINALS];
     fronts(rows, count, nonterminals, null, &mut led, &mut first);
-    let recursive_at = left_recursive(&led, nonterminals);
-    if recursive_at < nonterminals {
-        return Analysis {
-            number: 12,
-            index: recursive_at,
-        };
+    if let Some(index) = left_recursive(&led, nonterminals) {
+        return Analysis { number: 12, index };
     }
     starting(rows, count, nonterminals, start, null, &first, sets);
     Analysis {

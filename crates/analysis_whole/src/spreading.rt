@@ -10,11 +10,12 @@ use limits::NONTERMINALS;
 use nonterminal_set::NonterminalSet;
 
 // Adds a set, of tokens or of nonterminals, to entry a of a table.
+// Kept: a table is of words, since one walk spreads sets of tokens along edges and the sets of nonterminals that are the edges.
 pub fn add(table: &mut [u64; NONTERMINALS], a: usize, more: u64)
     requires { (a < nonterminals_limit) × (length table.old ≡ nonterminals_limit) }
     ensures { Added table.old (nonterminal a) more table.new }
 {
-    table[a] = table[a] | more;
+    table[a] |= more;
 }
 
 // All that the first n entries of a table of nonterminals have.
@@ -23,11 +24,8 @@ fn union_of(table: &[u64; NONTERMINALS], n: usize) -> NonterminalSet
     ensures { United table.now n result.0 }
 {
     let mut out = NonterminalSet::EMPTY;
-    let mut i: usize = 0;
-    while i < n {
-        let entry = table[i];
+    for &entry in &table[..n] {
         out = out.union(NonterminalSet(entry));
-        i += 1;
     }
     out
 }
@@ -45,12 +43,10 @@ fn give(
     ensures { (e s : List ℕ) → edge ≡ get_or e k 0 → set ≡ get_or s k 0 → Turned k e e edges.old at → Turned k e s sets.old at
         → Turned k e e edges.new (at + 1) × Turned k e s sets.new (at + 1) }
 {
-    let old = edges[at];
-    if !NonterminalSet(old).has(k as u8) {
-        return;
+    if NonterminalSet(edges[at]).has(k as u8) {
+        edges[at] |= edge;
+        sets[at] |= set;
     }
-    edges[at] = old | edge;
-    sets[at] = sets[at] | set;
 }
 
 // Gives what entry k has, edges and set, to the entries with an edge to k. Two of them at a turn take less than one after the other.
@@ -61,16 +57,13 @@ fn spread_by(edges: &mut [u64; NONTERMINALS], sets: &mut [u64; NONTERMINALS], n:
 {
     let edge = edges[k];
     let set = sets[k];
-    let mut i: usize = 0;
-    while i + 1 < n {
-        give(edges, sets, k, i, edge, set);
-        give(edges, sets, k, i + 1, edge, set);
-        i += 2;
+    for pair in 0..n / 2 {
+        give(edges, sets, k, 2 * pair, edge, set);
+        give(edges, sets, k, 2 * pair + 1, edge, set);
     }
-    if n <= i {
-        return;
+    if n % 2 == 1 {
+        give(edges, sets, k, n - 1, edge, set);
     }
-    give(edges, sets, k, i, edge, set);
 }
 
 // The edges closed, and the sets spread along them. Only nonterminals that some edge goes to can pass anything on.
@@ -79,12 +72,9 @@ pub fn spread(edges: &mut [u64; NONTERMINALS], sets: &mut [u64; NONTERMINALS], n
     ensures { Spreads n edges.old sets.old edges.new sets.new }
 {
     let used = union_of(edges, n);
-    let mut k: usize = 0;
-    while k < n {
-        let at = k;
-        k += 1;
-        if used.has(at as u8) {
-            spread_by(edges, sets, n, at);
+    for k in 0..n {
+        if used.has(k as u8) {
+            spread_by(edges, sets, n, k);
         }
     }
 }

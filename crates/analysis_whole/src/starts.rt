@@ -23,11 +23,8 @@ pub fn all_starts(
     requires { Image rows.now count × (length sets.old ≡ productions_limit) }
     ensures { SetsTo (starts_by (members null.0) first.now follow.now rows.now) count sets.new }
 {
-    let mut k: usize = 0;
-    while k < count {
-        let left = left_of(rows, k) as usize;
-        let after = follow[left];
-        sets[k] = begins(rows, k, null, first, TokenSet(after)).0;
-        k += 1;
+    for k in 0..count {
+        let after = TokenSet(follow[left_of(rows, k) as usize]);
+        sets[k] = begins(rows, k, null, first, after).0;
     }
 }

@@ -29,10 +29,9 @@ fn follow_where(
     requires { Image rows.now count × (n ≤ nonterminals_limit) × (start < nonterminals_limit) × (table.old ≡ replicate nonterminals_limit 0) }
     ensures { (null.0 ≡ 0 → ⊥) → Below n rows.now count → start < n → Followed (members null.0) first.now rows.now count start table.new }
 {
-    if null.is_empty() {
-        return;
+    if !null.is_empty() {
+        follow(rows, count, n, start as usize, null, first, table);
     }
-    follow(rows, count, n, start as usize, null, first, table);
 }
 
 // FIRST-then-FOLLOW of each production, from the set of the nonterminals that derive nothing and from FIRST; n is how many nonterminals there are.

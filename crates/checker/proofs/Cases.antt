@@ -10,7 +10,7 @@ use lib.Dec.{ltb}
 use lib.ListN.{length}
 use Rattle.meaning.specs.Table.{State, Read, well_formed, malformed, read_table}
 use Rattle.meaning.specs.Judgement as Judgement
-use Rattle.meaning.specs.Judgement.{accepted, rejected, entry_offset}
+use Rattle.meaning.specs.Judgement.{rejected, entry_offset}
 use Rattle.meaning.specs.Decide.{judge, verdict_of}
 use Rattle.meaning.specs.PublicCalls.{Checked, usable, unusable, check, cut, stretch_end, stretch_of}
 use Rattle.theory_table.specs.Places.{Places, read_places}
@@ -20,25 +20,24 @@ use Rattle.table_reader.specs.Fields.{nth_production}
 use Rattle.table_reader.proofs.Accepted.{begins, ends, last_end}
 use Rattle.outline.specs.Outline.{state_in, Productions, entries_are}
 use Rattle.checker.specs.Judging.{Accepts, Judges}
-use Rattle.checker_span.specs.Spans.{stretch_by, stretch_is, Inside, span_in}
+use Rattle.checker_span.specs.Spans.{Span, Within, Nowhere, stretch_by, stretch_is, Inside, span_in}
 use Rattle.checker_span.proofs.Cases.{span_missing, span_found}
-use Rattle.checker.specs.Verdicts.{span_where, span_as, span_of}
+use Rattle.checker.specs.Verdicts.{verdict_is, span_where, span_as, span_of}
 use Rattle.checker.specs.grammar.Concludes.{Concludes}
-use Rattle.checker.specs.declared.grammar.Judged.{Judged}
-use Rattle.checker.specs.declared.grammar.Judged.TheVariants.{Usable, Unusable}
-use Rattle.checker_span.specs.declared.Span.{Span}
-use Rattle.checker_span.specs.declared.Span.TheVariants.{Within, Nowhere}
+use Rattle.std.specs.Prelude.{Result, Ok, Err}
+use Rattle.refusals.specs.Numbers.{fault_number}
+use Rattle.refusals.specs.declared.TableRefusal.{TableRefusal}
 
 -- ---- the cases
 
-module _ (t inh syn rows offsets sets : List ℕ) (q : Judged) (j : Judges t inh syn rows offsets sets q) where
-  pub accepted_case : (sizes : Sizes) → q ≡ Usable sizes → Accepts t sizes inh syn rows offsets sets
+module _ (t inh syn rows offsets sets : List ℕ) (q : Result Sizes TableRefusal) (j : Judges t inh syn rows offsets sets q) where
+  pub accepted_case : (sizes : Sizes) → q ≡ Ok sizes → Accepts t sizes inh syn rows offsets sets
   unfolding Judges
   accepted_case sizes e = subst (Judges t inh syn rows offsets sets) e j
 
-  pub refused_case : (n o : ℕ) → q ≡ Unusable n o → check t ≡ unusable n o
+  pub refused_case : (r : TableRefusal) → q ≡ Err r → check t ≡ unusable (fault_number r.fault) r.offset
   unfolding Judges
-  refused_case n o e = subst (Judges t inh syn rows offsets sets) e j
+  refused_case r e = subst (Judges t inh syn rows offsets sets) e j
 
 -- ---- the verdict
 
@@ -56,20 +55,10 @@ verdict_malformed t n o e = sym (go (read_table t) e)
     go x e = rw e refl
 
 -- of one that is read
-module _ (t sets : List ℕ) (sizes : Sizes) (r : Judged) (read : read_table t ≡ well_formed (state_in t)) (k : Concludes t sizes sets r (judge (state_in t))) where
-  pub verdict_accepted : (s : Sizes) → r ≡ Usable s → accepted ≡ verdict_of t
-  verdict_accepted s e = by (judge (state_in t)) k ∙ sym (verdict_read t (state_in t) read)
-    where
-      by : (d : Judgement.Verdict) → Concludes t sizes sets r d → accepted ≡ d
-      by accepted c = refl
-      by (rejected n o) c = cc
-
-  pub verdict_refused : (n o : ℕ) → r ≡ Unusable n o → rejected n o ≡ verdict_of t
-  verdict_refused n o e = by (judge (state_in t)) k ∙ sym (verdict_read t (state_in t) read)
-    where
-      by : (d : Judgement.Verdict) → Concludes t sizes sets r d → rejected n o ≡ d
-      by accepted c = let f = c.0 in cc
-      by (rejected m i) c = cc
+module _ (t sets : List ℕ) (sizes : Sizes) (read : read_table t ≡ well_formed (state_in t)) where
+  pub verdict_judged : (r : Result (Unit {0}) TableRefusal) → Concludes t sizes sets r (judge (state_in t)) → verdict_is r ≡ verdict_of t
+  verdict_judged (Ok u) k = sym k.0 ∙ sym (verdict_read t (state_in t) read)
+  verdict_judged (Err f) k = sym k ∙ sym (verdict_read t (state_in t) read)
 
 -- ---- the stretch
 

@@ -1,18 +1,17 @@
 -- 01's numbers and values for the answers of the public calls.
-use Rattle.std.specs.Prelude.{ℕ, Bool, true, false, List, ltb, length}
+use Rattle.std.specs.Prelude.{ℕ, Bool, true, false, List, Result, Ok, Err, ltb, length}
 use Rattle.meaning.specs.Judgement as Judgement
 use Rattle.meaning.specs.Table.{State}
 use Rattle.meaning.specs.Judgement.{accepted, rejected, entry_offset}
 use Rattle.meaning.specs.PublicCalls.{Checked, usable, unusable, check, stretch_end}
-use Rattle.checker.specs.declared.Verdict.{Verdict}
-use Rattle.checker.specs.declared.Verdict.TheVariants.{Accepted, Refused}
-use Rattle.checker_span.specs.declared.Span.{Span}
-use Rattle.checker_span.specs.declared.Span.TheVariants.{Within, Nowhere}
+use Rattle.refusals.specs.Numbers.{fault_number}
+use Rattle.refusals.specs.declared.TableRefusal.{TableRefusal}
+use Rattle.checker_span.specs.Spans.{Span, Within, Nowhere}
 
 -- the verdict that each answer is
-abbrev pub verdict_is : Verdict → Judgement.Verdict
-verdict_is Accepted = accepted
-verdict_is (Refused number offset) = rejected number offset
+abbrev pub verdict_is : Result (Unit {0}) TableRefusal → Judgement.Verdict
+verdict_is (Ok _) = accepted
+verdict_is (Err r) = rejected (fault_number r.fault) r.offset
 
 -- where the stretch of production p stands: from its offset to the next one's or the end; 14 where there is no such production
 abbrev pub span_where : List ℕ → State → ℕ → Bool → Span

@@ -7,13 +7,7 @@ ghost use Rattle.checker.specs.grammar.Concludes.{Concludes};
 
 use limits::{PRODUCTIONS, ROWS};
 use outline::Sizes;
-
-// A table judged: accepted, with its numbers, or refused.
-#[derive(Clone, Copy)]
-pub enum Judged {
-    Usable(Sizes),
-    Unusable { number: u32, offset: u32 },
-}
+use refusals::{TableFault, TableRefusal};
 
 // Refusals 11 to 13 of a table that is well formed, by its outline and the words of its right sides.
 pub fn judge_grammar(
@@ -22,23 +16,33 @@ pub fn judge_grammar(
     rows: &[u8; ROWS],
     offsets: &[u32; PRODUCTIONS],
     sets: &mut [u64; PRODUCTIONS],
-) -> Judged
+) -> Result<(), TableRefusal>
     requires { Productions table.now rows.now offsets.now sizes.productions × NumbersOf sizes (grammar_in table.now) × SetsTo (right_by rows.now) sizes.productions sets.old }
     ensures { Concludes table.now sizes sets.new result (judge (state_in table.now)) }
 {
     let productions = sizes.productions;
-    let nonterminals = sizes.nonterminals;
-    let start = sizes.start as u8;
-    let a = analysis_whole::analyse(rows, productions, nonterminals, start, sets);
-    let number = a.number;
-    if number != 0 {
+    let a = analysis_whole::analyse(
+        rows,
+        productions,
+        sizes.nonterminals,
+        sizes.start as u8,
+        sets,
+    );
+    if a.number != 0 {
         let offset = (7 + 5 * a.index) as u32;
-        return Judged::Unusable { number, offset };
+        let fault = if a.number == 11 {
+            TableFault::Useless
+        } else {
+            TableFault::LeftRecursive
+        };
+        return Err(TableRefusal { fault, offset });
     }
     let p = clash::lowest_clash(table, rows, offsets, sets, productions);
     if p < productions {
-        let offset = offsets[p];
-        return Judged::Unusable { number: 13, offset };
+        return Err(TableRefusal {
+            fault: TableFault::Clash,
+            offset: offsets[p],
+        });
     }
-    Judged::Usable(sizes)
+    Ok(())
 }

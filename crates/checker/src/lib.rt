@@ -7,25 +7,19 @@ ghost use Rattle.meaning.specs.PublicCalls.{stretch_of};
 ghost use Rattle.checker_span.specs.Spans.{stretch_is};
 ghost use Rattle.checker.specs.Verdicts.{verdict_is};
 
-use crate::grammar::{Judged, judge_grammar};
+use crate::grammar::judge_grammar;
 use crate::spans::span_of;
 use limits::{NONTERMINALS, PRODUCTIONS, ROWS};
-use table::Reading;
+use refusals::TableRefusal;
 use table_read::read_table;
 
 pub mod grammar;
 pub mod judging;
 pub mod spans;
 
-#[derive(Clone, Copy)]
-pub enum Verdict {
-    Accepted,
-    Refused { number: u32, offset: u32 },
-}
-
 // The verdict on any bytes as a table. It calls the reader and the judge of grammars itself, as `judge_table` does: so the compiler keeps
 // each of them a function of its own, with fewer values to hold at a time.
-pub fn check(table: &[u8]) -> Verdict
+pub fn check(table: &[u8]) -> Result<(), TableRefusal>
     ensures { verdict_is result ≡ verdict_of table.now }
 {
     let mut inherited = [0u8; NONTERMINALS];
@@ -33,29 +27,21 @@ pub fn check(table: &[u8]) -> Verdict
     let mut rows = [0u8; ROWS];
     let mut offsets = [0u32; PRODUCTIONS];
     let mut sets = [0u64; PRODUCTIONS];
-    match read_table(
+    let sizes = read_table(
         table,
         &mut inherited,
         &mut synthesized,
         &mut rows,
         &mut offsets,
         &mut sets,
-    ) {
-        Reading::Malformed { number, offset } => Verdict::Refused {
-            number: number as u32,
-            offset,
-        },
-        Reading::WellFormed(sizes) => match judge_grammar(
-            table, sizes, &rows, &offsets, &mut sets,
-        ) {
-            Judged::Usable(_) => Verdict::Accepted,
-            Judged::Unusable { number, offset } => Verdict::Refused { number, offset },
-        },
-    }
+    )?;
+    judge_grammar(table, sizes, &rows, &offsets, &mut sets)
 }
 
 // A production's stretch of the table, from its tag 3 to the next or the end. On a refusal an empty part, with number and offset
 // in the two lent numbers; otherwise these stay as they were.
+// Kept: 01 fixes this form, "on a refusal an empty part, number and offset in two lent numbers".
+#[tactic(auto, using(crate::proofs::Cases::stretch_by_lem))]
 pub fn stretch<'a>(
     table: &'a [u8],
     production: usize,

@@ -1,10 +1,21 @@
 -- Spans of a table, and the part of it that each is.
-use Rattle.std.specs.Prelude.{ℕ, suc, ◌≤◌, ◌<◌, true, false, List, [], ltb, length}
+use Rattle.std.specs.Prelude.{ℕ, suc, ◌≤◌, ◌<◌, true, false, List, [], Result, Ok, Err, ltb, length}
 use Rattle.meaning.specs.Limits.{table_limit}
 use Rattle.meaning.specs.PublicCalls.{Stretch, cut}
 use Rattle.table_reader.specs.Fields.{nth_production}
-use Rattle.checker_span.specs.declared.Span.{Span}
-use Rattle.checker_span.specs.declared.Span.TheVariants.{Within, Nowhere}
+use Rattle.refusals.specs.Numbers.{fault_number}
+use Rattle.refusals.specs.declared.TableRefusal.{TableRefusal}
+use Rattle.table_reader.specs.declared.Stretch as Reader
+
+-- from one offset to another, or a refusal by its number
+pub data Span : Type 0 where
+  Within : ℕ → ℕ → Span
+  Nowhere : ℕ → ℕ → Span
+
+-- the span that an answer is
+abbrev pub span_is : Result Reader.Stretch TableRefusal → Span
+span_is (Ok s) = Within s.from s.to
+span_is (Err r) = Nowhere (fault_number r.fault) r.offset
 
 -- the part handed back and what the two lent numbers then hold
 abbrev pub stretch_is : List ℕ → ℕ → ℕ → Stretch

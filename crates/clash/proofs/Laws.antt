@@ -21,6 +21,7 @@ use Rattle.token_set.specs.SetBits.{set_of}
 use Rattle.outline.specs.Images.{left_at}
 use Rattle.set_words.specs.Views.{members}
 use Rattle.set_words.specs.Growth.{none_in}
+use Rattle.std.specs.Prelude.{Option, Some, None, MatchOption}
 use Rattle.analysis.specs.Numbers.{Clear, clear_none}
 use Rattle.clash_entries.specs.conditions.EntryConditions.{at_entry, rank_by, raised, lowered, Stretch}
 use Rattle.clash_rivals.specs.intervals.Intervals.{leave_values}
@@ -72,6 +73,15 @@ differences_together p q a b sum e =
     let m = rank_small q b in
     e ∙ compared_together p q (omega arith) (omega arith) (omega arith)
 
+-- what is known at a step of the search among the productions before p: no clash with those before the rival, or with any
+abbrev pub Ahead : (ℕ → Bool) → (ℕ → Bool) → ℕ → Option ℕ → Type 0
+Ahead clashing rivalling p r = MatchOption r (Clear clashing p) (λ q. (q < p) × Clear clashing q × (rivalling q ≡ true))
+
+-- how many are still to be looked at
+abbrev pub to_look_at : ℕ → Option ℕ → ℕ
+to_look_at p None = 0
+to_look_at p (Some q) = p - q
+
 -- what the intervals that are kept tell of two productions
 module _
     {t rows offsets sets : List ℕ} {count met : ℕ} {lows highs ranks : List ℕ} (x : Given t rows offsets sets count) (m : Meeting rows sets count met) (p : ℕ) (k : KeptTo t rows met lows highs ranks (p + 1)) (l : p < count) where
@@ -93,26 +103,26 @@ module _
       go (inl s) = clash_apart x p q l (omega arith) _ refl s
       go (inr w) = clash_met x p q l (omega arith) _ refl w.0 _ (kept_together q h w.0 w.1 w.2) _ e
 
-  pub clear_on : (from r : ℕ) → Clear (clash_in t p) from → NextRival (rival rows sets lows highs ranks p) p from r → Clear (clash_in t p) r
-  clear_on from r c n = record { clear = λ j h t. go j h t (dec_lt j from) }
+  pub clear_on : (from : ℕ) (r : Option ℕ) → Clear (clash_in t p) from → NextRival (rival rows sets lows highs ranks p) p from r → Ahead (clash_in t p) (rival rows sets lows highs ranks p) p r
+  clear_on from None c n = record { clear = λ j h u. go j h u (dec_lt j from) }
+    where
+      go : (j : ℕ) → j < p → T (clash_in t p j) → Dec (j < from) → ⊥
+      go j h u (yes i) = c.clear j i u
+      go j h u (no i) = subst T (apart_clear j h (n j (omega arith) h)) u
+  clear_on from (Some r) c n = (n.1, record { clear = λ j h u. go j h u (dec_lt j from) }, n.2)
     where
       go : (j : ℕ) → j < r → T (clash_in t p j) → Dec (j < from) → ⊥
-      go j h t (yes i) = c.clear j i t
-      go j h t (no i) = subst T (apart_clear j (omega (arith, n.upto)) (n.passed j (omega arith) h)) t
+      go j h u (yes i) = c.clear j i u
+      go j h u (no i) = subst T (apart_clear j (omega (arith, n.1)) (n.3 j (omega arith) h)) u
 
-  -- what is known where the search among the earlier ones begins
+  -- where it begins
   pub first_known :
-      (seen : List ℕ) → Seen rows sets p seen → (r : ℕ) → FirstRival (meet (set_of (get_or seen (left_at rows p) 0)) (set_of (get_or sets p 0))) (rival rows sets lows highs ranks p) p r
-      → (r ≤ p) × Clear (clash_in t p) r × (r < p → rival rows sets lows highs ranks p r ≡ true)
+      (seen : List ℕ) → Seen rows sets p seen → (r : Option ℕ) → FirstRival (meet (set_of (get_or seen (left_at rows p) 0)) (set_of (get_or sets p 0))) (rival rows sets lows highs ranks p) p r → Ahead (clash_in t p) (rival rows sets lows highs ranks p) p r
   first_known seen s r f = go (meet (set_of (get_or seen (left_at rows p) 0)) (set_of (get_or sets p 0))) refl
     where
-      go : (b : Bool) → meet (set_of (get_or seen (left_at rows p) 0)) (set_of (get_or sets p 0)) ≡ b → (r ≤ p) × Clear (clash_in t p) r × (r < p → rival rows sets lows highs ranks p r ≡ true)
-      go true e =
-          let n = f.met e in
-          (n.upto, clear_on 0 r (clear_none (clash_in t p)) n, n.here)
-      go false e =
-          let i = f.unmet e in
-          (omega arith, subst (Clear (clash_in t p)) (sym i) (unmet_clear x p seen l s e), λ h. absurd (omega arith))
+      go : (b : Bool) → meet (set_of (get_or seen (left_at rows p) 0)) (set_of (get_or sets p 0)) ≡ b → Ahead (clash_in t p) (rival rows sets lows highs ranks p) p r
+      go true e = clear_on 0 r (clear_none (clash_in t p)) (f.met e)
+      go false e = subst (Ahead (clash_in t p) (rival rows sets lows highs ranks p) p) (sym (f.unmet e)) (unmet_clear x p seen l s e)
 
 -- by the matrix
 pub closed_solvable :

@@ -1,5 +1,5 @@
 -- The search for the lowest clash, over what the reader and the analysis leave of a table.
-use Rattle.std.specs.Prelude.{ℕ, ◌+◌, ◌≤◌, ◌<◌, ◌≡◌, refl, Bool, true, false, ◌||◌, List, ◌++◌, T, eqb, get_or, length, replicate, set}
+use Rattle.std.specs.Prelude.{ℕ, ◌+◌, ◌≤◌, ◌<◌, ◌≡◌, refl, Bool, true, false, ◌||◌, List, ◌++◌, T, eqb, get_or, length, replicate, set, Option, None, MatchOption}
 use Rattle.std.proofs.Math.Decide.{ℕ_discrete}
 use Rattle.std.proofs.Common.{arith, ◌∙◌, subst, ⊎_elim, length-set, get_or-set_same, get_or-set_other}
 use Rattle.std.proofs.Math.Path.{sym, ap, ap₂}
@@ -236,31 +236,28 @@ module _ {rows sets : List ℕ} {k : ℕ} {seen : List ℕ} (s : Seen rows sets 
       let v = s.only (left_at rows k) w.0 w.1 in
       (v.0, v.1, sym (start_same rows sets k v.0 (sym v.2) true (sym (T→true _ (meet_at (set_of (get_or sets k 0)) (set_of (get_or sets v.0 0)) w.0 w.2 v.3)))))
 
--- r is the lowest production that starts together with an earlier one, or `count`
-pub record FirstCrossing (rows sets : List ℕ) (count r : ℕ) : Type 0 where
-  pub upto : r ≤ count
-  pub before : Apart rows sets r
-  pub here : r < count → (q : ℕ) × (q < r) × (start_together rows sets r q ≡ true)
+-- r is the lowest production that starts together with an earlier one; none, and none does
+abbrev pub FirstCrossing : List ℕ → List ℕ → ℕ → Option ℕ → Type 0
+FirstCrossing rows sets count r = MatchOption r (Apart rows sets count) (λ k. (k < count) × Apart rows sets k × ((q : ℕ) × (q < k) × (start_together rows sets k q ≡ true)))
 
 -- no clash comes before it
-pub crossing_clear : {t rows offsets sets : List ℕ} {count r : ℕ} → Given t rows offsets sets count → FirstCrossing rows sets count r → Clear (clashes (grammar_in t)) r
-crossing_clear {t} {r = r} x f = record { clear = λ p l c. away p l (count_any (clash_in t p) 0 p c) }
+pub crossing_clear : {t rows offsets sets : List ℕ} {count r : ℕ} → Given t rows offsets sets count → r ≤ count → Apart rows sets r → Clear (clashes (grammar_in t)) r
+crossing_clear {t} {r = r} x l f = record { clear = λ p m c. away p m (count_any (clash_in t p) 0 p c) }
   where
     away : (p : ℕ) → p < r → (q : ℕ) × (0 ≤ q) × (q < 0 + p) × T (clash_in t p q) → ⊥
-    away p l w = f.before.apart p w.0 l (omega (arith, w.2)) (clash_tells x p w.0 (omega (arith, f.upto)) (omega (arith, w.2, f.upto)) w.3)
+    away p m w = f.apart p w.0 m (omega (arith, w.2)) (clash_tells x p w.0 (omega arith) (omega (arith, w.2)) w.3)
 
 -- without entry conditions it is one itself
 pub crossing_clashes :
-    {t rows offsets sets : List ℕ} {count r : ℕ} → Given t rows offsets sets count → FirstCrossing rows sets count r → r < count → after_all rank_by (production_at (grammar_in t) r) 0 ≡ 0
+    {t rows offsets sets : List ℕ} {count r : ℕ} → Given t rows offsets sets count → r < count → (q : ℕ) × (q < r) × (start_together rows sets r q ≡ true) → after_all rank_by (production_at (grammar_in t) r) 0 ≡ 0
     → T (clashes (grammar_in t) r)
-crossing_clashes {t} {r = r} x f l none =
-    let w = f.here l in
+crossing_clashes {t} {r = r} x l w none =
     clashes_one t r w.0 w.1 (clash_met x r w.0 l (omega (arith, w.1)) _ refl w.2 true (later_free (production_at (grammar_in t) r) (production_at (grammar_in t) w.0) none) true refl)
 
 -- r is the first rival, if the set meets what its left side has had, or none
-pub record FirstRival (meets : Bool) (f : ℕ → Bool) (later r : ℕ) : Type 0 where
+pub record FirstRival (meets : Bool) (f : ℕ → Bool) (later : ℕ) (r : Option ℕ) : Type 0 where
   pub met : meets ≡ true → NextRival f later 0 r
-  pub unmet : meets ≡ false → r ≡ later
+  pub unmet : meets ≡ false → r ≡ None
 
 -- ---- left sides with productions whose sets meet
 pub record Meeting (rows sets : List ℕ) (k met : ℕ) : Type 0 where

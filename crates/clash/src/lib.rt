@@ -12,36 +12,39 @@ ghost use Rattle.token_set.specs.SetBits.{set_of};
 ghost use Rattle.outline.specs.Images.{Image};
 ghost use Rattle.set_words.specs.Views.{members};
 ghost use Rattle.analysis.specs.Numbers.{Found};
+ghost use Rattle.analysis.specs.Lowest.{Lowest};
+ghost use Rattle.clash_entries.specs.conditions.Ranks.{ranks_of};
 ghost use Rattle.clash_rivals.specs.Rivals.{rival};
 ghost use Rattle.outline.specs.Outline.{grammar_in};
 ghost use Rattle.clash.specs.Clashing.{Given, Meeting, FirstRival, FirstCrossing};
 
 use crate::kept::{has_entry, keep};
 use crate::together::enters_together;
+use clash_entries::conditions::entry::Entry;
 use clash_rivals::next_rival;
 use limits::{BOUNDS, NONTERMINALS, PRODUCTIONS, ROWS};
 use nonterminal_set::NonterminalSet;
 use outline::left_of;
 use token_set::TokenSet;
 
-// The first rival of `later` among the productions before it; `later` where its set meets nothing that they have.
+// The first rival of `later` among the productions before it: none where its set meets nothing that they have.
 fn first_rival(
     rows: &[u8; ROWS],
     sets: &[u64; PRODUCTIONS],
     lows: &[u32; BOUNDS],
     highs: &[u32; BOUNDS],
-    ranks: &[u8; PRODUCTIONS],
+    ranks: &[Entry; PRODUCTIONS],
     later: usize,
     seen: TokenSet,
-) -> usize
+) -> Option<usize>
     requires { later < productions_limit }
-    ensures { FirstRival (meet (set_of seen.0) (set_of (get_or sets.now later 0))) (rival rows.now sets.now lows.now highs.now ranks.now later) later result }
+    ensures { FirstRival (meet (set_of seen.0) (set_of (get_or sets.now later 0))) (rival rows.now sets.now lows.now highs.now (ranks_of ranks.now) later) later result }
 {
-    let set = sets[later];
-    if seen.meets(TokenSet(set)) {
-        return next_rival(rows, sets, lows, highs, ranks, later, 0);
+    if seen.meets(TokenSet(sets[later])) {
+        next_rival(rows, sets, lows, highs, ranks, later, 0)
+    } else {
+        None
     }
-    later
 }
 
 // A left side where a set meets what its productions have had before; else none.
@@ -50,29 +53,28 @@ fn crossing(seen: TokenSet, set: TokenSet, left: u8) -> NonterminalSet
     ensures { (a : ℕ) → members result.0 a ≡ (meet (set_of seen.0) (set_of set.0) && eqb left a) }
 {
     if seen.meets(set) {
-        return NonterminalSet::of_nonterminal(left);
+        NonterminalSet::of_nonterminal(left)
+    } else {
+        NonterminalSet::EMPTY
     }
-    NonterminalSet::EMPTY
 }
 
-// The lowest production whose set meets that of an earlier one with its left side; `count` where there is none.
-fn first_crossing(rows: &[u8; ROWS], sets: &[u64; PRODUCTIONS], count: usize) -> usize
+// The lowest production whose set meets that of an earlier one with its left side.
+fn first_crossing(rows: &[u8; ROWS], sets: &[u64; PRODUCTIONS], count: usize) -> Option<usize>
     requires { Image rows.now count }
     ensures { FirstCrossing rows.now sets.now count result }
 {
     let mut seen = [0u64; NONTERMINALS];
-    let mut k: usize = 0;
-    while k < count {
+    for k in 0..count {
         let at = left_of(rows, k) as usize;
-        let had = seen[at];
-        let set = sets[k];
-        if TokenSet(had).meets(TokenSet(set)) {
-            return k;
+        let had = TokenSet(seen[at]);
+        let set = TokenSet(sets[k]);
+        if had.meets(set) {
+            return Some(k);
         }
-        seen[at] = TokenSet(had).union(TokenSet(set)).0;
-        k += 1;
+        seen[at] = had.union(set).0;
     }
-    k
+    None
 }
 
 // The left sides with productions whose sets meet.
@@ -82,15 +84,13 @@ fn meeting(rows: &[u8; ROWS], sets: &[u64; PRODUCTIONS], count: usize) -> Nonter
 {
     let mut seen = [0u64; NONTERMINALS];
     let mut met = NonterminalSet::EMPTY;
-    let mut k: usize = 0;
-    while k < count {
+    for k in 0..count {
         let left = left_of(rows, k);
         let at = left as usize;
-        let had = seen[at];
-        let set = sets[k];
-        met = met.union(crossing(TokenSet(had), TokenSet(set), left));
-        seen[at] = TokenSet(had).union(TokenSet(set)).0;
-        k += 1;
+        let had = TokenSet(seen[at]);
+        let set = TokenSet(sets[k]);
+        met = met.union(crossing(had, set, left));
+        seen[at] = had.union(set).0;
     }
     met
 }
@@ -103,33 +103,31 @@ fn lowest_by_entry(
     sets: &[u64; PRODUCTIONS],
     count: usize,
     met: NonterminalSet,
-) -> usize
+) -> Option<usize>
     requires { Given table.now rows.now offsets.now sets.now count × Meeting rows.now sets.now count met.0 }
-    ensures { Found (Decide.clashes (grammar_in table.now)) count result }
+    ensures { Lowest (Decide.clashes (grammar_in table.now)) count result }
 {
     let mut lows = [0u32; BOUNDS];
     let mut highs = [0u32; BOUNDS];
-    let mut ranks = [0u8; PRODUCTIONS];
+    let mut ranks = [Entry::Free; PRODUCTIONS];
     let mut seen = [0u64; NONTERMINALS];
-    let mut later: usize = 0;
-    'pairs: while later < count {
+    for later in 0..count {
         let left = left_of(rows, later);
         let at = left as usize;
         let on = met.has(left);
         keep(table, offsets, later, on, &mut lows, &mut highs, &mut ranks);
-        let had = seen[at];
-        let mut earlier = first_rival(rows, sets, &lows, &highs, &ranks, later, TokenSet(had));
-        while earlier < later {
+        let had = TokenSet(seen[at]);
+        let mut rival = first_rival(rows, sets, &lows, &highs, &ranks, later, had);
+        // Kept: from rival to rival; an iterator over them would hold the outline and what is kept of both productions, and call the same function.
+        while let Some(earlier) = rival {
             if enters_together(table, offsets, &ranks, later, earlier) {
-                break 'pairs;
+                return Some(later);
             }
-            earlier = next_rival(rows, sets, &lows, &highs, &ranks, later, earlier + 1);
+            rival = next_rival(rows, sets, &lows, &highs, &ranks, later, earlier + 1);
         }
-        let set = sets[later];
-        seen[at] = TokenSet(had).union(TokenSet(set)).0;
-        later += 1;
+        seen[at] = had.union(TokenSet(sets[later])).0;
     }
-    later
+    None
 }
 
 // The lowest production that clashes with an earlier one; `count` where there is none.
@@ -144,13 +142,12 @@ pub fn lowest_clash(
     requires { Given table.now rows.now offsets.now sets.now count }
     ensures { Found (Decide.clashes (grammar_in table.now)) count result }
 {
-    let first = first_crossing(rows, sets, count);
-    if count <= first {
+    let Some(first) = first_crossing(rows, sets, count) else {
         return count;
-    }
+    };
     if !has_entry(table, offsets, first) {
         return first;
     }
     let met = meeting(rows, sets, count);
-    lowest_by_entry(table, rows, offsets, sets, count, met)
+    lowest_by_entry(table, rows, offsets, sets, count, met).unwrap_or(count)
 }

@@ -4,11 +4,13 @@ ghost use Rattle.std.specs.Prelude.{◌≡◌, true, ◌++◌, ◌<◌, get_or};
 ghost use Rattle.meaning.specs.Limits.{attributes_limit, productions_limit};
 ghost use Rattle.meaning.specs.Grammar.{production_at};
 ghost use Rattle.meaning.specs.Differences.{solvable};
+ghost use Rattle.clash_entries.specs.conditions.Ranks.{ranks_of};
 ghost use Rattle.clash_entries.specs.conditions.EntryConditions.{at_entry};
 ghost use Rattle.outline.specs.Outline.{grammar_in};
 ghost use Rattle.clash.specs.Placing.{Placed};
 ghost use Rattle.clash.specs.Clashing.{Ranked, enter_in};
 
+use clash_entries::conditions::entry::Entry;
 use clash_entries::constrain_by;
 use limits::{ATTRIBUTES, PRODUCTIONS};
 
@@ -35,16 +37,16 @@ fn leaves_differences(
 pub fn enters_together(
     table: &[u8],
     offsets: &[u32; PRODUCTIONS],
-    ranks: &[u8; PRODUCTIONS],
+    ranks: &[Entry; PRODUCTIONS],
     later: usize,
     earlier: usize,
 ) -> bool
-    requires own { (later < productions_limit) × Placed table.now offsets.now later × Ranked table.now ranks.now later }
-    requires other { (earlier < productions_limit) × Placed table.now offsets.now earlier × Ranked table.now ranks.now earlier }
-    requires ranges { get_or ranks.now later 0 ≡ 1 → get_or ranks.now earlier 0 ≡ 1 → enter_in table.now later earlier ≡ true }
+    requires own { (later < productions_limit) × Placed table.now offsets.now later × Ranked table.now (ranks_of ranks.now) later }
+    requires other { (earlier < productions_limit) × Placed table.now offsets.now earlier × Ranked table.now (ranks_of ranks.now) earlier }
+    requires ranges { get_or (ranks_of ranks.now) later 0 ≡ 1 → get_or (ranks_of ranks.now) earlier 0 ≡ 1 → enter_in table.now later earlier ≡ true }
     ensures { result ≡ enter_in table.now later earlier }
 {
-    if ranks[later] + ranks[earlier] <= 2 {
+    if !ranks[later].need_differences(ranks[earlier]) {
         return true;
     }
     leaves_differences(table, offsets, later, earlier)

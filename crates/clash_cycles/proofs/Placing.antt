@@ -3,10 +3,10 @@ use Prim.Native.Nat.{ℕ, zero, suc, ◌+◌, ◌-◌, ◌*◌, ◌≤◌, ◌<�
 use native.Mathlib.Omega.{arith}
 use native.Mathlib.Decide.{ℕ_discrete}
 use mathlib.Core.Path.{◌≡◌, refl, sym, ap, ap₂, ◌∙◌}
-use mathlib.Core.Bool.{true, false, true≢false, false≢true}
+use Rattle.std.specs.Prelude.{Some, None}
 use mathlib.Core.List.{List, ◌∷◌}
 use lib.IntN.{ℤ, pos, negsuc, nat_abs, ◌+ℤ◌}
-use lib.ListN.{get_or, length, set, replicate}
+use lib.ListN.{length, set, replicate}
 use lib.Seq.{get_or-set_same, get_or-set_other}
 use Rattle.meaning.specs.Limits.{attributes_limit}
 use Rattle.meaning.specs.Differences.{at, closed, lesser}
@@ -80,10 +80,10 @@ listed_same : (f g : ℕ → ℤ) (from c : ℕ) → ((i : ℕ) → i < from + c
 listed_same f g from zero e = refl
 listed_same f g from (suc c) e = ap₂ (λ (x : ℤ) (l : List ℤ). x ∷ l) (e from (omega arith)) (listed_same f g (suc from) c (λ i h. e i (omega arith)))
 
-pub solved : (l m v : List ℤ) (n : ℕ) (cs : List (Condition ℕ)) → m ≡ closed l → NoneNegative (at m) 9 → Placed (at m) attributes_limit v → EntriesAreWalks l n cs → Solves true v n cs
+pub solved : (l m v : List ℤ) (n : ℕ) (cs : List (Condition ℕ)) → m ≡ closed l → NoneNegative (at m) 9 → Placed (at m) attributes_limit v → EntriesAreWalks l n cs → Solves (Some v) n cs
 solved l m v n cs e f p s =
     let same : listed (node_value v) 1 n ≡ listed (solution (at (closed l)) attributes_limit) 1 n = listed_same (node_value v) (solution (at (closed l)) attributes_limit) 1 n (λ i h. (rw e at p) i (omega (arith, s.fits))) in
-    record { values = λ h. rw same (found l n cs s (rw e at f)); cycle = λ h. absurd (true≢false h) }
+    rw same (found l n cs s (rw e at f))
 
-pub unsolved : (l m v : List ℤ) (n : ℕ) (cs : List (Condition ℕ)) → m ≡ closed l → Negative m → EntriesAreWalks l n cs → Solves false v n cs
-unsolved l m v n cs e f s = record { values = λ h. absurd (false≢true h); cycle = λ h. cycle l n cs s f.node f.below (rw e at f.sum) }
+pub unsolved : (l m : List ℤ) (n : ℕ) (cs : List (Condition ℕ)) → m ≡ closed l → Negative m → EntriesAreWalks l n cs → Solves None n cs
+unsolved l m n cs e f s = cycle l n cs s f.node f.below (rw e at f.sum)

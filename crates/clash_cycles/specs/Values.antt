@@ -1,5 +1,5 @@
 -- The values of the nodes, as the code writes them into nine cells.
-use Rattle.std.specs.Prelude.{ℕ, ◌≤◌, ◌<◌, ◌≡◌, Bool, true, false, List, ℤ, pos, nat_abs, get_or}
+use Rattle.std.specs.Prelude.{ℕ, ◌≤◌, ◌<◌, ◌≡◌, List, ℤ, pos, nat_abs, get_or, Option, MatchOption}
 use Rattle.meaning.specs.Grammar.{Condition}
 use Rattle.meaning_statements.specs.CompareStatements.{Meets, NegativeCycle}
 use Rattle.theory_differences.specs.Solving.{solution}
@@ -17,6 +17,5 @@ abbrev pub Placed : (ℕ → ℕ → ℤ) → ℕ → List ℤ → Type 0
 Placed M k v = (i : ℕ) → i < 9 → node_value v i ≡ solution M k i
 
 -- the values of the nodes 1 to n meet the conditions, or a cycle has a negative sum
-pub record Solves (met : Bool) (v : List ℤ) (n : ℕ) (cs : List (Condition ℕ)) : Type 0 where
-  pub values : met ≡ true → Meets n cs (listed (node_value v) 1 n)
-  pub cycle : met ≡ false → NegativeCycle n cs
+abbrev pub Solves : Option (List ℤ) → ℕ → List (Condition ℕ) → Type 0
+Solves r n cs = MatchOption r (NegativeCycle n cs) (λ v. Meets n cs (listed (node_value v) 1 n))

@@ -13,10 +13,7 @@ ghost use Rattle.clash_cycles.specs.differences.Tested.{Tested};
 pub fn lesser(a: i64, b: i64) -> i64
     ensures { result ≡ Differences.lesser a b }
 {
-    if b < a {
-        return b;
-    }
-    a
+    if b < a { b } else { a }
 }
 
 // ---- the matrix of some conditions
@@ -25,13 +22,11 @@ pub fn lesser(a: i64, b: i64) -> i64
 fn bound(n: usize, node: usize) -> i64
     ensures { (result ≡ Differences.bound n node) × (nat_abs result ≤ reach) }
 {
-    if node == 0 {
-        return 0;
+    if 1 <= node && node <= n {
+        value::HIGHEST
+    } else {
+        0
     }
-    if node <= n {
-        return value::HIGHEST;
-    }
-    0
 }
 
 // Of n attributes, with no condition yet.
@@ -39,12 +34,10 @@ pub fn start(n: usize) -> [i64; 81]
     ensures { (result ≡ matrix_of n []) × Small limit result }
 {
     let mut m = [0i64; 81];
-    let mut t = 0;
-    while t < 81 {
+    for t in 0..81 {
         let i = bound(n, t / 9);
         let j = bound(n, t % 9);
         m[t] = i + j;
-        t += 1;
     }
     m
 }
@@ -84,13 +77,11 @@ pub fn none_negative(m: &[i64]) -> bool
     requires { length m.now ≡ 81 }
     ensures { Tested result m.now }
 {
-    let mut k = 0;
-    while k < 9 {
+    for k in 0..9 {
         let sum = m[k * 9 + k];
         if sum < 0 {
             return false;
         }
-        k += 1;
     }
     true
 }

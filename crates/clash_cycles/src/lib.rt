@@ -10,6 +10,7 @@ ghost use Rattle.theory_differences.specs.Closing.{Small, room};
 ghost use Rattle.theory_differences.specs.Decided.{EntriesAreWalks, limit};
 ghost use Rattle.clash_cycles.specs.Values.{node_value, Near, Placed, Solves};
 
+use crate::differences::{lesser, none_negative, tighten};
 use limits::ATTRIBUTES;
 
 pub mod differences;
@@ -23,7 +24,7 @@ fn relax(m: &mut [i64], k: usize, i: usize, j: usize)
 {
     let x = m[i * 9 + k];
     let y = m[k * 9 + j];
-    crate::differences::tighten(m, i, j, x + y);
+    tighten(m, i, j, x + y);
 }
 
 // The first k entries of the row i.
@@ -31,10 +32,8 @@ fn relax_row(m: &mut [i64], k: usize, i: usize)
     requires { (length m.old ≡ 81) × (k < 9) × (i < k) × Small 1152921504606846976 m.old }
     ensures { m.new ≡ row_relaxed m.old k i k }
 {
-    let mut j = 0;
-    while j < k {
+    for j in 0..k {
         relax(m, k, i, j);
-        j += 1;
     }
 }
 
@@ -43,10 +42,8 @@ fn eliminate(m: &mut [i64], k: usize)
     requires { (length m.old ≡ 81) × (k < 9) × Small 576460752303423488 m.old }
     ensures { m.new ≡ eliminated m.old k }
 {
-    let mut i = 0;
-    while i < k {
+    for i in 0..k {
         relax_row(m, k, i);
-        i += 1;
     }
 }
 
@@ -55,10 +52,8 @@ fn close(m: &mut [i64])
     requires { (length m.old ≡ 81) × Small (room attributes_limit) m.old }
     ensures { m.new ≡ closed m.old }
 {
-    let mut k = ATTRIBUTES;
-    while 0 < k {
-        eliminate(m, k);
-        k -= 1;
+    for k in (0..ATTRIBUTES).rev() {
+        eliminate(m, k + 1);
     }
 }
 
@@ -71,7 +66,7 @@ pub fn satisfiable(m: [i64; 81]) -> bool
 {
     let mut closed = m;
     close(&mut closed);
-    crate::differences::none_negative(&closed)
+    none_negative(&closed)
 }
 
 // ---- values
@@ -92,11 +87,9 @@ fn placed(m: &[i64], v: &[i64], k: usize) -> i64
     ensures { result ≡ least (λ j. node_value v.now j +ℤ at m.now k j) (k - 1) }
 {
     let mut x = allowed(m, v, k, 0);
-    let mut j = 1;
-    while j < k {
+    for j in 1..k {
         let y = allowed(m, v, k, j);
-        x = crate::differences::lesser(x, y);
-        j += 1;
+        x = lesser(x, y);
     }
     x
 }
@@ -106,38 +99,23 @@ fn place(m: &[i64], v: &mut [i64])
     requires { (length m.now ≡ 81) × (length v.old ≡ 9) × Small 576460752303423488 m.now × Near 0 v.old }
     ensures { Placed (at m.now) attributes_limit v.new }
 {
-    let mut k = 1;
-    while k < 9 {
+    for k in 1..9 {
         let x = placed(m, v, k);
         v[k] = x;
-        k += 1;
     }
 }
 
-// The value of the attribute a is at a.
-#[derive(Clone, Copy)]
-pub struct Solved {
-    pub met: bool,
-    pub values: [i64; 9],
-}
-
-// As `satisfiable`, and where the conditions can be met, values that meet them.
-pub fn solve(m: [i64; 81]) -> Solved
+// As `satisfiable`, and where the conditions can be met, values that meet them: that of the attribute a is at a.
+pub fn solve(m: [i64; 81]) -> Option<[i64; 9]>
     requires { Small limit m }
-    ensures { (n : ℕ) (cs : List (Condition ℕ)) → EntriesAreWalks m n cs → Solves result.met result.values n cs }
+    ensures { (n : ℕ) (cs : List (Condition ℕ)) → EntriesAreWalks m n cs → Solves result n cs }
 {
     let mut closed = m;
     close(&mut closed);
+    if !none_negative(&closed) {
+        return None;
+    }
     let mut v = [0i64; 9];
-    if crate::differences::none_negative(&closed) {
-        place(&closed, &mut v);
-        return Solved {
-            met: true,
-            values: v,
-        };
-    }
-    Solved {
-        met: false,
-        values: v,
-    }
+    place(&closed, &mut v);
+    Some(v)
 }

@@ -8,3 +8,5 @@ pub mod EntryConditions
 pub mod Walk
 -- Fields, by computation
 pub mod Cases
+-- What entry conditions a production has, by how much they say: 0 none, 1 ranges, 2 a comparison
+pub mod Ranks

@@ -59,12 +59,13 @@ pub fn constrain_by(stretch: &[u8], m: &mut [i64])
     ensures small { Small limit m.old → Small limit m.new }
 {
     let mut at = field_size(stretch);
+    // Kept: no range, since a field's own size says where the next begins.
     while at < stretch.len() {
         let field = &stretch[at..];
         if value::byte_at(field, 0) == 3 {
             return;
         }
         constrain(field, m);
-        at = at + field_size(field);
+        at += field_size(field);
     }
 }

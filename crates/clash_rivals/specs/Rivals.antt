@@ -1,6 +1,6 @@
 -- Pairs of productions by their rows, their sets and what is kept of their entry conditions: a low and a high end for each
 -- inherited attribute, production p's from 8 p on, and what there are of them: 0 none, 1 ranges, 2 a comparison.
-use Rattle.std.specs.Prelude.{ℕ, ◌≤◌, ◌<◌, ◌≡◌, ◌⊎◌, Bool, ◌&&◌, ◌||◌, not, List, T, eqb, get_or}
+use Rattle.std.specs.Prelude.{ℕ, ◌≤◌, ◌<◌, ◌≡◌, ◌⊎◌, Bool, ◌&&◌, ◌||◌, not, List, T, eqb, get_or, Option, MatchOption}
 use Rattle.std.proofs.Math.Decide.{ℕ_discrete}
 use Rattle.std.proofs.Math.Path.{refl, sym}
 use Rattle.std.proofs.Common.{ap, ◌∙◌, subst, inl, inr, eqb→eq}
@@ -20,12 +20,9 @@ start_together rows sets p q = eqb (left_at rows p) (left_at rows q) && meet (se
 unfoldable pub rival : List ℕ → List ℕ → List ℕ → List ℕ → List ℕ → ℕ → ℕ → Bool
 rival rows sets lows highs ranks p q = start_together rows sets p q && (not (eqb (get_or ranks p 0) 1) || not (eqb (get_or ranks q 0) 1) || leave_values lows highs p q)
 
--- r is the lowest number from `from` on that passes, or `end`
-pub record NextRival (f : ℕ → Bool) (end from r : ℕ) : Type 0 where
-  pub least : from ≤ r
-  pub upto : r ≤ end
-  pub passed : (j : ℕ) → from ≤ j → j < r → f j ≡ false
-  pub here : r < end → f r ≡ true
+-- r is the lowest number from `from` to below `end` that passes; none, and none of them passes
+abbrev pub NextRival : (ℕ → Bool) → ℕ → ℕ → Option ℕ → Type 0
+NextRival f end from r = MatchOption r ((j : ℕ) → from ≤ j → j < end → f j ≡ false) (λ i. (from ≤ i) × (i < end) × (f i ≡ true) × ((j : ℕ) → from ≤ j → j < i → f j ≡ false))
 
 module _ (rows sets : List ℕ) (p q : ℕ) where
   pub start_other : (left_at rows p ≡ left_at rows q → ⊥) → false ≡ start_together rows sets p q

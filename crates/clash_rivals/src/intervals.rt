@@ -10,23 +10,12 @@ pub fn leaves_values(lows: &[u32; BOUNDS], highs: &[u32; BOUNDS], p: usize, q: u
     requires { (p < productions_limit) × (q < productions_limit) }
     ensures { result ≡ leave_values lows.now highs.now p q }
 {
-    let mut a: usize = 0;
-    while a < ATTRIBUTES {
+    for a in 0..ATTRIBUTES {
         let i = ATTRIBUTES * p + a;
         let j = ATTRIBUTES * q + a;
-        if highs[j] < lows[i] {
+        if highs[i].min(highs[j]) < lows[i].max(lows[j]) {
             return false;
         }
-        if highs[i] < lows[j] {
-            return false;
-        }
-        if highs[i] < lows[i] {
-            return false;
-        }
-        if highs[j] < lows[j] {
-            return false;
-        }
-        a += 1;
     }
     true
 }

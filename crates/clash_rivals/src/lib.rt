@@ -4,8 +4,11 @@
 
 ghost use Rattle.std.specs.Prelude.{◌≡◌, ◌<◌, ◌≤◌};
 ghost use Rattle.meaning.specs.Limits.{productions_limit};
+ghost use Rattle.clash_entries.specs.conditions.Ranks.{ranks_of};
 ghost use Rattle.clash_rivals.specs.Rivals.{start_together, rival, NextRival};
 
+use crate::intervals::leaves_values;
+use clash_entries::conditions::entry::Entry;
 use limits::{BOUNDS, PRODUCTIONS, ROWS};
 use outline::left_of;
 use token_set::TokenSet;
@@ -13,62 +16,49 @@ use token_set::TokenSet;
 pub mod intervals;
 
 // Whether productions p and q have one left side and sets that meet.
+#[tactic(auto, unfolding(crate::specs::Rivals::start_together))]
 fn starts_together(rows: &[u8; ROWS], sets: &[u64; PRODUCTIONS], p: usize, q: usize) -> bool
     requires { (p < productions_limit) × (q < productions_limit) }
     ensures { result ≡ start_together rows.now sets.now p q }
 {
-    if left_of(rows, p) != left_of(rows, q) {
-        return false;
-    }
-    let own = sets[p];
-    let other = sets[q];
-    TokenSet(own).meets(TokenSet(other))
+    left_of(rows, p) == left_of(rows, q) && TokenSet(sets[p]).meets(TokenSet(sets[q]))
 }
 
 // Whether they start together and their intervals do not keep them apart: those tell only where both have ranges and no comparison.
+#[tactic(auto, unfolding(crate::specs::Rivals::rival))]
 fn is_rival(
     rows: &[u8; ROWS],
     sets: &[u64; PRODUCTIONS],
     lows: &[u32; BOUNDS],
     highs: &[u32; BOUNDS],
-    ranks: &[u8; PRODUCTIONS],
+    ranks: &[Entry; PRODUCTIONS],
     p: usize,
     q: usize,
 ) -> bool
     requires { (p < productions_limit) × (q < productions_limit) }
-    ensures { result ≡ rival rows.now sets.now lows.now highs.now ranks.now p q }
+    ensures { result ≡ rival rows.now sets.now lows.now highs.now (ranks_of ranks.now) p q }
 {
-    if !starts_together(rows, sets, p, q) {
-        return false;
-    }
-    if ranks[p] != 1 {
-        return true;
-    }
-    if ranks[q] != 1 {
-        return true;
-    }
-    crate::intervals::leaves_values(lows, highs, p, q)
+    starts_together(rows, sets, p, q)
+        && (!ranks[p].is_ranges() || !ranks[q].is_ranges() || leaves_values(lows, highs, p, q))
 }
 
-// The first rival of `later` from `from` on; `later` where there is none.
+// The first rival of `later` from `from` on.
 pub fn next_rival(
     rows: &[u8; ROWS],
     sets: &[u64; PRODUCTIONS],
     lows: &[u32; BOUNDS],
     highs: &[u32; BOUNDS],
-    ranks: &[u8; PRODUCTIONS],
+    ranks: &[Entry; PRODUCTIONS],
     later: usize,
     from: usize,
-) -> usize
+) -> Option<usize>
     requires { (later < productions_limit) × (from ≤ later) }
-    ensures { NextRival (rival rows.now sets.now lows.now highs.now ranks.now later) later from result }
+    ensures { NextRival (rival rows.now sets.now lows.now highs.now (ranks_of ranks.now) later) later from result }
 {
-    let mut earlier = from;
-    while earlier < later {
+    for earlier in from..later {
         if is_rival(rows, sets, lows, highs, ranks, later, earlier) {
-            return earlier;
+            return Some(earlier);
         }
-        earlier += 1;
     }
-    later
+    None
 }

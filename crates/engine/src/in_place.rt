@@ -20,9 +20,7 @@ pub fn feed_in_place(
     ensures { effect_is (record { «record» = «record».new; answer = result }) registers.new places.new program.new
         ≡ performs program_of table.now program.old (record_is «record».old) (stacks_of registers.old places.old) (feed kinds.now values.now) }
 {
-    let before = *record;
-    let called = before.feed(table, registers, places, program, kinds, values);
-    let after = called.record;
-    *record = after;
+    let called = record.feed(table, registers, places, program, kinds, values);
+    *record = called.record;
     called.answer
 }

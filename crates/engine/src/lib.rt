@@ -15,12 +15,12 @@ use run_lent::Call;
 pub mod in_place;
 
 // The run record: a state, with the calls as its methods.
-#[derive(Clone, Copy)]
+#[derive(Clone, Copy, Debug, PartialEq, Eq)]
 pub struct Record {
     pub state: State,
 }
 
-#[derive(Clone, Copy)]
+#[derive(Clone, Copy, Debug, PartialEq, Eq)]
 pub struct Called {
     pub record: Record,
     pub answer: Answer,
@@ -29,11 +29,11 @@ pub struct Called {
 pub fn hand_back(handed: Handed) -> Called
     ensures { result ≡ called_from handed }
 {
-    let state = handed.state;
-    let answer = handed.answer;
     Called {
-        record: Record { state },
-        answer,
+        record: Record {
+            state: handed.state,
+        },
+        answer: handed.answer,
     }
 }
 
@@ -86,10 +86,9 @@ impl Record {
     ) -> Called
         ensures { effect_is result registers.new places.new program.new ≡ performs program_of table.now program.old (record_is self) (stacks_of registers.old places.old) (feed kinds.now values.now) }
     {
-        let state = self.state;
         hand_back(perform(
             Call::Feed,
-            state,
+            self.state,
             table,
             registers,
             places,
@@ -109,18 +108,15 @@ impl Record {
     ) -> Called
         ensures { effect_is result registers.new places.new program.new ≡ performs program_of table.now program.old (record_is self) (stacks_of registers.old places.old) finish }
     {
-        let state = self.state;
-        let kinds = [0u8; 1];
-        let values = [0i32; 1];
         hand_back(perform(
             Call::Finish,
-            state,
+            self.state,
             table,
             registers,
             places,
             program,
-            &kinds,
-            &values,
+            &[],
+            &[],
         ))
     }
 }

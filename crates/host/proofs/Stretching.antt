@@ -2,8 +2,7 @@
 use Prim.Native.Nat.{ℕ, ◌-◌}
 use mathlib.Core.Path.{◌≡◌, refl, sym, ◌∙◌, subst}
 use mathlib.Core.List.{List}
-use Rattle.checker_span.specs.declared.Span.{Span}
-use Rattle.checker_span.specs.declared.Span.TheVariants.{Within, Nowhere}
+use Rattle.checker_span.specs.Spans.{Span, Within, Nowhere}
 use Rattle.checker.specs.Verdicts.{span_of}
 use Rattle.checker.proofs.Cases.{stretch_within, stretch_nowhere}
 use Rattle.host.specs.Passed.{Spanned, Stretched}

@@ -1,13 +1,11 @@
 -- What the host's calls pass on.
-use Rattle.std.specs.Prelude.{ℕ, ◌-◌, ◌≡◌, refl, List, take, drop}
+use Rattle.std.specs.Prelude.{ℕ, ◌-◌, ◌≡◌, refl, List, Result, Ok, Err, take, drop}
 use Rattle.std.proofs.Common.{sym, ap, ◌∙◌, subst}
 use Rattle.meaning.specs.Judgement.{Verdict, accepted, rejected}
 use Rattle.meaning.specs.PublicCalls.{stretch_of}
-use Rattle.checker.specs.declared.Verdict as Answer
-use Rattle.checker.specs.declared.Verdict.TheVariants.{Accepted, Refused}
-use Rattle.checker_span.specs.declared.Span.{Span}
-use Rattle.checker_span.specs.declared.Span.TheVariants.{Within, Nowhere}
-use Rattle.checker_span.specs.Spans.{stretch_is}
+use Rattle.refusals.specs.Numbers.{fault_number}
+use Rattle.refusals.specs.declared.TableRefusal.{TableRefusal}
+use Rattle.checker_span.specs.Spans.{Span, Within, Nowhere, stretch_is}
 use Rattle.checker.specs.Verdicts.{verdict_is, span_of}
 
 -- a verdict as two numbers, both 0 for an accepted table
@@ -15,11 +13,12 @@ abbrev pub checked : ℕ → ℕ → Verdict → Type 0
 checked number offset accepted = (number ≡ 0) × (offset ≡ 0)
 checked number offset (rejected n o) = (number ≡ n) × (offset ≡ o)
 
-pub accepts : (r : Answer.Verdict) (v : Verdict) → verdict_is r ≡ v → r ≡ Accepted → checked 0 0 v
-accepts r v e q = subst (checked 0 0) (sym (ap verdict_is q) ∙ e) (refl, refl)
+module _ (r : Result (Unit {0}) TableRefusal) (v : Verdict) (e : verdict_is r ≡ v) where
+  pub accepts : (u : Unit {0}) → r ≡ Ok u → checked 0 0 v
+  accepts u q = subst (checked 0 0) (sym (ap verdict_is q) ∙ e) (refl, refl)
 
-pub refuses : (r : Answer.Verdict) (v : Verdict) → verdict_is r ≡ v → (n o : ℕ) → r ≡ Refused n o → checked n o v
-refuses r v e n o q = subst (checked n o) (sym (ap verdict_is q) ∙ e) (refl, refl)
+  pub refuses : (f : TableRefusal) → r ≡ Err f → checked (fault_number f.fault) f.offset v
+  refuses f q = subst (checked (fault_number f.fault) f.offset) (sym (ap verdict_is q) ∙ e) (refl, refl)
 
 -- a span as start, length, number and offset: the last two 0 where there is a stretch, the first two on a refusal
 abbrev pub Spanned : ℕ → ℕ → ℕ → ℕ → Span → Type 0

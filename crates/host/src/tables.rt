@@ -6,32 +6,23 @@ ghost use Rattle.host.specs.Passed.{checked, Stretched};
 ghost use Rattle.host.specs.Listed.{listed, listed_of};
 ghost use Rattle.host.specs.Housed.{Housed};
 
-use checker::Verdict;
-use checker_span::Span;
 use limits::{AREA, LINE};
 
 // The verdict on a table: number and offset of its refusal, or 0 and 0.
+#[tactic(auto, using(crate::specs::Passed::accepts, crate::specs::Passed::refuses))]
 #[unsafe(no_mangle)]
 pub extern "C" fn segment_check(table: &[u8], number: &mut u32, offset: &mut u32)
     ensures { checked number.new offset.new (verdict_of table.now) }
 {
-    match checker::check(table) {
-        Verdict::Accepted => {
-            *number = 0;
-            *offset = 0;
-        }
-        Verdict::Refused {
-            number: refusal,
-            offset: at,
-        } => {
-            *number = refusal;
-            *offset = at;
-        }
-    }
+    (*number, *offset) = match checker::check(table) {
+        Ok(()) => (0, 0),
+        Err(refusal) => (refusal.fault.number(), refusal.offset),
+    };
 }
 
 // A production's stretch of the table, as its start and length; number and offset are then 0. On a refusal these are the
 // refusal's, and start and length are 0.
+#[tactic(auto, using(crate::proofs::Stretching::stretched_within, crate::proofs::Stretching::stretched_nowhere))]
 #[unsafe(no_mangle)]
 pub extern "C" fn segment_stretch(
     table: &[u8],
@@ -43,23 +34,10 @@ pub extern "C" fn segment_stretch(
 )
     ensures { Stretched table.now production start.new length.new number.new offset.new }
 {
-    match checker::spans::span_of(table, production) {
-        Span::Within { from, to } => {
-            *start = from;
-            *length = to - from;
-            *number = 0;
-            *offset = 0;
-        }
-        Span::Nowhere {
-            number: n,
-            offset: o,
-        } => {
-            *start = 0;
-            *length = 0;
-            *number = n;
-            *offset = o;
-        }
-    }
+    (*start, *length, *number, *offset) = match checker::spans::span_of(table, production) {
+        Ok(stretch) => (stretch.from, stretch.to - stretch.from, 0, 0),
+        Err(refusal) => (0, 0, refusal.fault.number(), refusal.offset),
+    };
 }
 
 // The first page of what the listing program prints for a table, as many whole lines as there is room for: its length, and 1 where that is

@@ -59,7 +59,7 @@ fn kind_out(kind: Kind) -> u64
 {
     match kind {
         Kind::Outer => 0,
-        Kind::Inner(registers, places) => 1,
+        Kind::Inner { .. } => 1,
     }
 }
 
@@ -68,7 +68,7 @@ fn register_base(kind: Kind) -> u64
 {
     match kind {
         Kind::Outer => 0,
-        Kind::Inner(registers, places) => registers,
+        Kind::Inner { registers, .. } => registers,
     }
 }
 
@@ -77,7 +77,7 @@ fn place_base(kind: Kind) -> u64
 {
     match kind {
         Kind::Outer => 0,
-        Kind::Inner(registers, places) => places,
+        Kind::Inner { places, .. } => places,
     }
 }
 
@@ -85,17 +85,15 @@ pub fn hand_back(record: Record, numbers: &mut [u64; 8])
     ensures { numbers.new ≡ numbers_of (record_is «record») }
 {
     let state = record.state;
-    let status = state.status;
-    let kind = state.kind;
     *numbers = [
-        status_out(status),
+        status_out(state.status),
         state.tokens,
         state.moves,
         state.registers,
         state.places,
-        kind_out(kind),
-        register_base(kind),
-        place_base(kind),
+        kind_out(state.kind),
+        register_base(state.kind),
+        place_base(state.kind),
     ];
 }
 
@@ -107,8 +105,8 @@ pub fn answer_number(answer: Answer) -> u32
     match answer {
         Answer::More(_) => 0,
         Answer::Value(_, _) => 0,
-        Answer::Refused { number, tokens: _ } => number,
-        Answer::TableRefused { number, offset: _ } => number,
+        Answer::Refused { number, .. } => number,
+        Answer::TableRefused { number, .. } => number,
     }
 }
 
@@ -118,8 +116,8 @@ pub fn answer_count(answer: Answer) -> u64
     match answer {
         Answer::More(moves) => moves,
         Answer::Value(_, moves) => moves,
-        Answer::Refused { number: _, tokens } => tokens,
-        Answer::TableRefused { number: _, offset } => offset,
+        Answer::Refused { tokens, .. } => tokens,
+        Answer::TableRefused { offset, .. } => offset,
     }
 }
 
@@ -127,16 +125,8 @@ pub fn answer_value(answer: Answer) -> i64
     ensures { result ≡ answer_value (answer_is answer) }
 {
     match answer {
-        Answer::More(_) => 0,
         Answer::Value(v, _) => v,
-        Answer::Refused {
-            number: _,
-            tokens: _,
-        } => 0,
-        Answer::TableRefused {
-            number: _,
-            offset: _,
-        } => 0,
+        Answer::More(_) | Answer::Refused { .. } | Answer::TableRefused { .. } => 0,
     }
 }
 
@@ -146,7 +136,6 @@ pub fn pass_on(called: Called, numbers: &mut [u64; 8], number: &mut u32, count: 
     ensures { (numbers.new ≡ numbers_of (record_is called.«record»)) × (number.new ≡ answer_number (answer_is called.answer)) × (count.new ≡ answer_count (answer_is called.answer)) }
 {
     hand_back(called.record, numbers);
-    let answer = called.answer;
-    *number = answer_number(answer);
-    *count = answer_count(answer);
+    *number = answer_number(called.answer);
+    *count = answer_count(called.answer);
 }

@@ -5,7 +5,6 @@ use mathlib.Core.Path.{◌≡◌, sym, ap, subst, ◌∙◌}
 use mathlib.Core.List.{List, ◌++◌, map, reverse}
 use lib.ListN.{length, get_or, take, length-map, length-reverse}
 use lib.Seq.{length-take-le, get_or-take, ext_get_or}
-use Rattle.meaning.specs.Limits.{productions_limit}
 use Rattle.meaning.specs.Table.{State, Entry, no_entry}
 use Rattle.meaning.specs.Layout.{Bytes}
 use Rattle.meaning.specs.PublicCalls.{usable, check}
@@ -18,12 +17,12 @@ use Rattle.outline.specs.declared.Sizes.{Sizes}
 use Rattle.outline.specs.Outline.{state_in, Outline, entries_are}
 use Rattle.checker.specs.Judging.{Judges}
 use Rattle.checker.proofs.Cases.{accepted_case, refused_case}
-use Rattle.checker.specs.declared.grammar.Judged.{Judged}
-use Rattle.checker.specs.declared.grammar.Judged.TheVariants.{Usable, Unusable}
+use Rattle.std.specs.Prelude.{Result, Ok, Err}
+use Rattle.refusals.specs.declared.TableRefusal.{TableRefusal}
+use Rattle.refusals.specs.declared.CallRefusal.{CallRefusal}
+use Rattle.refusals.specs.declared.CallRefusal.TheVariants.{OfTable}
 use Rattle.house_write.specs.Answers.{house_is}
 use Rattle.house.specs.Answers.{PlanReady, Writes}
-use Rattle.house_write.specs.declared.Written.{Written}
-use Rattle.house_write.specs.declared.Written.TheVariants as Variant
 
 -- ---- an accepted table is
 
@@ -68,7 +67,7 @@ module _ (t inherited synthesized rows offsets : List ℕ) (sizes : Sizes) (byte
     short = (table_reads t s b.productions.is_read).0;
   }
 
-  pub outline_writes : (size : ℕ) (e : size ≡ 1664) (out out' : List ℕ) (w : Written) → check t ≡ usable s → Writes t offsets sizes.productions size out out' w → house_is w out' ≡ house_of t out
+  pub outline_writes : (size : ℕ) (e : size ≡ 1664) (out out' : List ℕ) (w : Result ℕ CallRefusal) → check t ≡ usable s → Writes t offsets sizes.productions size out out' w → house_is w out' ≡ house_of t out
   unfolding outline_ready
   outline_writes size e out out' w u h =
       h (outline_ready size e)
@@ -76,20 +75,17 @@ module _ (t inherited synthesized rows offsets : List ℕ) (sizes : Sizes) (byte
 
 -- ---- the answers
 
-module _ (t inherited synthesized rows offsets sets : List ℕ) (q : Judged) (j : Judges t inherited synthesized rows offsets sets q) where
-  pub answer_refused : (n o : ℕ) → q ≡ Unusable n o → (out : List ℕ) → house_is (Variant.Unusable n o) out ≡ house_of t out
-  answer_refused n o e out = sym (house_unusable t n o out (refused_case t inherited synthesized rows offsets sets q j n o e))
+module _ (t inherited synthesized rows offsets sets : List ℕ) (q : Result Sizes TableRefusal) (j : Judges t inherited synthesized rows offsets sets q) where
+  pub answer_refused : (r : TableRefusal) → q ≡ Err r → (out : List ℕ) → house_is (Err (OfTable r)) out ≡ house_of t out
+  answer_refused r e out = sym (house_unusable t _ _ out (refused_case t inherited synthesized rows offsets sets q j r e))
 
-  pub answer_offsets : (sizes : Sizes) → q ≡ Usable sizes → productions_limit ≡ length offsets
-  answer_offsets sizes e = sym (accepted_case t inherited synthesized rows offsets sets q j sizes e).outlined.outline.lengths.3
-
-  module _ (bytes : Bytes t) (sizes : Sizes) (e : q ≡ Usable sizes) (size : ℕ) (k : size ≡ 1664) where
+  module _ (bytes : Bytes t) (sizes : Sizes) (e : q ≡ Ok sizes) (size : ℕ) (k : size ≡ 1664) where
     pub answer_ready : PlanReady t offsets sizes.productions size
     answer_ready =
         let x = accepted_case t inherited synthesized rows offsets sets q j sizes e in
         outline_ready t inherited synthesized rows offsets sizes bytes x.outlined.outline size k
 
-    pub answer_written : (out out' : List ℕ) (w : Written) → Writes t offsets sizes.productions size out out' w → house_is w out' ≡ house_of t out
+    pub answer_written : (out out' : List ℕ) (w : Result ℕ CallRefusal) → Writes t offsets sizes.productions size out out' w → house_is w out' ≡ house_of t out
     answer_written out out' w h =
         let x = accepted_case t inherited synthesized rows offsets sets q j sizes e in
         outline_writes t inherited synthesized rows offsets sizes bytes x.outlined.outline size k out out' w x.is_usable h

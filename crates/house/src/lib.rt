@@ -7,9 +7,11 @@ ghost use Rattle.meaning_house.specs.House.{house_of};
 ghost use Rattle.house_write.specs.Answers.{house_is};
 ghost use Rattle.house.specs.Answers.{PlanReady, Writes};
 
-use checker::grammar::Judged;
-use house_write::Written;
 use limits::{NONTERMINALS, PRODUCTIONS, ROWS};
+use refusals::CallRefusal;
+
+// The rules and conditions of one table are at most so many.
+const FIELDS: usize = 1664;
 
 // Writes a table whose productions begin at these offsets.
 fn write_house(
@@ -18,7 +20,7 @@ fn write_house(
     count: usize,
     plan: &mut [u32],
     out: &mut [u8],
-) -> Written
+) -> Result<usize, CallRefusal>
     requires { PlanReady table.now offsets.now count (length plan.old) }
     ensures { Writes table.now offsets.now count (length plan.old) out.old out.new result }
 {
@@ -28,7 +30,7 @@ fn write_house(
 }
 
 // Writes any bytes as a table in house order; on a refusal not a byte of the buffer changes, and bytes past the length stay.
-pub fn house(table: &[u8], out: &mut [u8]) -> Written
+pub fn house(table: &[u8], out: &mut [u8]) -> Result<usize, CallRefusal>
     ensures { house_is result out.new ≡ house_of table.now out.old }
 {
     let mut inherited = [0u8; NONTERMINALS];
@@ -36,19 +38,14 @@ pub fn house(table: &[u8], out: &mut [u8]) -> Written
     let mut rows = [0u8; ROWS];
     let mut offsets = [0u32; PRODUCTIONS];
     let mut sets = [0u64; PRODUCTIONS];
-    match checker::judging::judge_table(
+    let sizes = checker::judging::judge_table(
         table,
         &mut inherited,
         &mut synthesized,
         &mut rows,
         &mut offsets,
         &mut sets,
-    ) {
-        Judged::Unusable { number, offset } => Written::Unusable { number, offset },
-        Judged::Usable(sizes) => {
-            let mut plan = [0u32; 1664];
-            let count = sizes.productions;
-            write_house(table, &offsets, count, &mut plan, out)
-        }
-    }
+    )?;
+    let mut plan = [0u32; FIELDS];
+    write_house(table, &offsets, sizes.productions, &mut plan, out)
 }

@@ -4,16 +4,11 @@ use native.Mathlib.Omega.{arith}
 use native.Mathlib.Numerals.{add-one}
 use mathlib.Core.Path.{◌≡◌, refl, sym, ap, ap₂, ◌∙◌}
 use mathlib.Core.List.{List, [], ◌∷◌, ◌++◌, append_assoc, append-nil}
-use lib.ListN.{length, get_or, take, drop, set, length-append, length-take, length-drop, take-append-drop}
-use lib.Seq.{paste, paste-suc, length-take-le, take-length, take-suc, take-append_seam, drop-append-add, drop-drop, take_all}
+use lib.ListN.{length, get_or, take, drop, length-append, length-take, length-drop, take-append-drop}
+use lib.Seq.{paste, length-take-le, take-length, take-suc, take-append_seam, drop-append-add, drop-drop, take_all}
 use Rattle.meaning.specs.PublicCalls.{written}
 use Rattle.theory_order.specs.FieldWalk.{size_at, field_at}
 use Rattle.theory_order.specs.Planning.{copied, copied_append}
-
--- ---- a copy, byte by byte
-
-pub paste_more : (d : List ℕ) (at : ℕ) (s : List ℕ) (j : ℕ) (m : List ℕ) → at + j < length d → j < length s → m ≡ paste d at s j → set m (at + j) (get_or s j 0) ≡ paste d at s (j + 1)
-paste_more d at s j m g h e = ap (λ z. set z (at + j) (get_or s j 0)) e ∙ (paste-suc d at s j 0 g h ∙ ap (paste d at s) (sym (add-one j)))
 
 -- ---- the fields
 

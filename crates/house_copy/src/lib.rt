@@ -12,13 +12,9 @@ pub fn planned_length(table: &[u8], order: &[u32]) -> usize
     requires { (length table.now ≤ table_limit) × (length order.now ≤ 1664) }
     ensures { (result ≡ length (copied table.now order.now)) × (result ≤ 54525952) }
 {
-    let mut sum: usize = 0;
-    let mut i: usize = 0;
-    while i < order.len() {
-        let at = house_sort::keys::offset_at(order, i);
-        let field = house_sort::keys::field_at(table, at);
-        sum += field.len();
-        i += 1;
+    let mut sum = 0;
+    for at in order {
+        sum += house_sort::keys::field_at(table, *at as usize).len();
     }
     sum
 }
@@ -28,11 +24,7 @@ pub fn copy(bytes: &[u8], out: &mut [u8], to: usize)
     requires { to + length bytes.now ≤ length out.old }
     ensures { out.new ≡ paste out.old to bytes.now (length bytes.now) }
 {
-    let mut i: usize = 0;
-    while i < bytes.len() {
-        out[to + i] = bytes[i];
-        i += 1;
-    }
+    out[to..to + bytes.len()].copy_from_slice(bytes);
 }
 
 // Copies the fields at these offsets into the buffer from an offset on.
@@ -41,12 +33,9 @@ pub fn write_fields(table: &[u8], order: &[u32], out: &mut [u8], to: usize)
     ensures { out.new ≡ written (take to out.old ++ copied table.now order.now) out.old }
 {
     let mut at = to;
-    let mut i: usize = 0;
-    while i < order.len() {
-        let offset = house_sort::keys::offset_at(order, i);
-        let field = house_sort::keys::field_at(table, offset);
+    for offset in order {
+        let field = house_sort::keys::field_at(table, *offset as usize);
         copy(field, out, at);
         at += field.len();
-        i += 1;
     }
 }

@@ -5,7 +5,7 @@ use native.Mathlib.Numerals.{add-one}
 use mathlib.Core.Path.{◌≡◌, refl, sym, ap, ap₂, subst, ◌∙◌}
 use mathlib.Core.List.{List, [], ◌∷◌, ◌++◌, append_assoc, append-nil}
 use lib.ListN.{length, get_or, take, drop, set, length-drop, drop_of_length-le}
-use lib.Seq.{length-take-le, take-append-add, take-append-le, take-suc-set, drop-cons, get_or-take}
+use lib.Seq.{length-take-le, take-append-add, take-append-le, take-suc-set, drop-cons}
 use Rattle.theory_order.specs.Gathering.{gathered}
 use Rattle.theory_order.specs.FieldWalk.{size_at, key_at, Fields, tagged}
 use Rattle.theory_order.specs.Planning.{plan_of, uses, Planned, NextPlanned, planned_more, planned_none}
@@ -81,22 +81,20 @@ Goes t offsets plan n p = (goal : List ℕ) (room : ℕ) → Planned t offsets g
 pub goes_start : (t offsets plan : List ℕ) → Goes t offsets plan 0 0
 goes_start t offsets plan goal room q = record { left = goal; room_left = room; further = q; same = refl; few = omega arith }
 
-module _ (t offsets plan : List ℕ) (n p count from : ℕ) (w : Goes t (take count offsets) plan n p) (l : p < count) (h : count ≤ length offsets) (e : from ≡ get_or offsets p 0) where
-  first_left : drop p (take count offsets) ≡ from ∷ drop (p + 1) (take count offsets)
-  first_left =
-      drop-cons (take count offsets) p 0 (omega (arith, length-take-le count offsets h))
-      ∙ ap₂ (λ x y. x ∷ drop y (take count offsets)) (get_or-take count offsets p 0 l ∙ sym e) (sym (add-one p))
+module _ (t offsets plan : List ℕ) (n p from : ℕ) (w : Goes t offsets plan n p) (l : p < length offsets) (e : from ≡ get_or offsets p 0) where
+  first_left : drop p offsets ≡ from ∷ drop (p + 1) offsets
+  first_left = drop-cons offsets p 0 l ∙ ap₂ (λ x y. x ∷ drop y offsets) (sym e) (sym (add-one p))
 
-  next_left : (goal : List ℕ) (room : ℕ) (q : Planned t (take count offsets) goal room) → NextPlanned t from (drop (p + 1) (take count offsets)) (w goal room q).left (w goal room q).room_left
+  next_left : (goal : List ℕ) (room : ℕ) (q : Planned t offsets goal room) → NextPlanned t from (drop (p + 1) offsets) (w goal room q).left (w goal room q).room_left
   next_left goal room q = planned_more (subst (λ z. Planned t z (w goal room q).left (w goal room q).room_left) first_left (w goal room q).further)
 
-  pub goes_room : (size : ℕ) → TableRoom t (take count offsets) size → ProductionRoom t from n size
+  pub goes_room : (size : ℕ) → TableRoom t offsets size → ProductionRoom t from n size
   goes_room size g =
       let x = w g.plan g.room g.planned in
       let y = next_left g.plan g.room g.planned in
       record { fields = y.fields; walk = y.walk; fits = omega (arith, x.few, y.is_room, g.fits) }
 
-  pub goes_on : (plan' : List ℕ) (r : ℕ) → ProductionPlanned t from plan n plan' r → Goes t (take count offsets) plan' r (p + 1)
+  pub goes_on : (plan' : List ℕ) (r : ℕ) → ProductionPlanned t from plan n plan' r → Goes t offsets plan' r (p + 1)
   goes_on plan' r g goal room q =
       let x = w goal room q in
       let y = next_left goal room q in
@@ -109,9 +107,9 @@ module _ (t offsets plan : List ℕ) (n p count from : ℕ) (w : Goes t (take co
         few = omega (arith, x.few, y.is_room, z.1);
       }
 
-pub goes_end : (t offsets plan : List ℕ) (n p count : ℕ) → Goes t (take count offsets) plan n p → count ≤ p → count ≤ length offsets → TablePlanned t (take count offsets) plan n
-goes_end t offsets plan n p count w l h goal room q =
+pub goes_end : (t offsets plan : List ℕ) (n p : ℕ) → Goes t offsets plan n p → length offsets ≤ p → TablePlanned t offsets plan n
+goes_end t offsets plan n p w l goal room q =
     let x = w goal room q in
-    let none : drop p (take count offsets) ≡ [] = drop_of_length-le (take count offsets) {i = p} (omega (arith, length-take-le count offsets h)) in
+    let none : drop p offsets ≡ [] = drop_of_length-le offsets {i = p} l in
     let y = planned_none (subst (λ z. Planned t z x.left x.room_left) none x.further) in
     (sym (append-nil (take n plan)) ∙ (ap (λ k. take n plan ++ k) (sym y.0) ∙ x.same), omega (arith, x.few))

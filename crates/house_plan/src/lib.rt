@@ -37,12 +37,9 @@ pub fn plan_table(table: &[u8], offsets: &[u32], count: usize, plan: &mut [u32])
     requires { (length table.now < 4294967296) × (count ≤ length offsets.now) × TableRoom table.now (take count offsets.now) (length plan.old) × (length plan.old ≤ 1664) }
     ensures { TablePlanned table.now (take count offsets.now) plan.new result }
 {
-    let mut n: usize = 0;
-    let mut p: usize = 0;
-    while p < count {
-        let from = house_sort::keys::offset_at(offsets, p);
-        n = plan_production(table, from, plan, n);
-        p += 1;
+    let mut n = 0;
+    for from in &offsets[..count] {
+        n = plan_production(table, *from as usize, plan, n);
     }
     n
 }

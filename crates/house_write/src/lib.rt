@@ -7,24 +7,25 @@ ghost use Rattle.meaning_house.specs.House.{writing};
 ghost use Rattle.theory_order.specs.Planning.{copied};
 ghost use Rattle.house_write.specs.Answers.{house_is};
 
-// The table in house order is written, with its length; the buffer is too short (36); or the table is refused.
-#[derive(Clone, Copy)]
-pub enum Written {
-    Done(usize),
-    Short,
-    Unusable { number: u32, offset: u32 },
-}
+use refusals::{CallRefusal, Refusal};
 
-// Writes everything before the first production and then the fields at these offsets, or nothing where the buffer is too short.
-pub fn write_planned(table: &[u8], order: &[u32], first: usize, out: &mut [u8]) -> Written
+// Writes everything before the first production and then the fields at these offsets, and tells the length; or writes nothing where the buffer
+// is too short (36).
+#[tactic(auto, using(crate::proofs::Writing::whole_short, crate::proofs::Writing::whole_written))]
+pub fn write_planned(
+    table: &[u8],
+    order: &[u32],
+    first: usize,
+    out: &mut [u8],
+) -> Result<usize, CallRefusal>
     requires { (length table.now ≤ table_limit) × (first ≤ length table.now) × (length order.now ≤ 1664) }
     ensures { house_is result out.new ≡ writing (take first table.now ++ copied table.now order.now) out.old }
 {
     let length = first + house_copy::planned_length(table, order);
     if out.len() < length {
-        return Written::Short;
+        return Err(CallRefusal::OfCall(Refusal::BufferShort));
     }
     house_copy::copy(&table[..first], out, 0);
     house_copy::write_fields(table, order, out, first);
-    Written::Done(length)
+    Ok(length)
 }

@@ -6,7 +6,8 @@ pub fn beginning(height: u64, lent: usize) -> usize
     ensures { result ≡ min height lent }
 {
     if height < lent as u64 {
-        return height as usize;
+        height as usize
+    } else {
+        lent
     }
-    lent
 }

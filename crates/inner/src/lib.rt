@@ -23,7 +23,7 @@ pub mod states;
 pub mod stretch;
 
 // What an inner call hands back: both records and the answer.
-#[derive(Clone, Copy)]
+#[derive(Clone, Copy, Debug, PartialEq, Eq)]
 pub struct InnerCalled {
     pub outer: Record,
     pub inner: Record,
@@ -33,13 +33,14 @@ pub struct InnerCalled {
 fn hand_back(handed: InnerHanded) -> InnerCalled
     ensures { result ≡ inner_called_from handed }
 {
-    let outer = handed.outer;
-    let inner = handed.inner;
-    let answer = handed.answer;
     InnerCalled {
-        outer: Record { state: outer },
-        inner: Record { state: inner },
-        answer,
+        outer: Record {
+            state: handed.outer,
+        },
+        inner: Record {
+            state: handed.inner,
+        },
+        answer: handed.answer,
     }
 }
 
@@ -56,9 +57,8 @@ pub fn open_inner(
 ) -> InnerCalled
     ensures { inner_effect_is result registers.new places.new program.new ≡ inner_opens program_of outer_table.now inner_table.now program.old (record_is outer) (stacks_of registers.old places.old) }
 {
-    let state = outer.state;
     hand_back(crate::opening::open_outside(
-        state,
+        outer.state,
         outer_table,
         inner_table,
         registers,
@@ -109,12 +109,10 @@ pub fn feed_inner(
     ensures { inner_effect_is result registers.new places.new program.new
         ≡ inner_performs program_of table.now program.old (record_is outer) (record_is inner) (stacks_of registers.old places.old) (Inner.engine (feed kinds.now values.now)) }
 {
-    let below = outer.state;
-    let above = inner.state;
     hand_back(perform(
         Call::Feed,
-        below,
-        above,
+        outer.state,
+        inner.state,
         table,
         registers,
         places,
@@ -135,20 +133,16 @@ pub fn finish_inner(
 ) -> InnerCalled
     ensures { inner_effect_is result registers.new places.new program.new ≡ inner_performs program_of table.now program.old (record_is outer) (record_is inner) (stacks_of registers.old places.old) (Inner.engine finish) }
 {
-    let below = outer.state;
-    let above = inner.state;
-    let kinds = [0u8; 1];
-    let values = [0i32; 1];
     hand_back(perform(
         Call::Finish,
-        below,
-        above,
+        outer.state,
+        inner.state,
         table,
         registers,
         places,
         program,
-        &kinds,
-        &values,
+        &[],
+        &[],
     ))
 }
 
@@ -163,19 +157,15 @@ pub fn give_up(
 ) -> InnerCalled
     ensures { inner_effect_is result registers.new places.new program.new ≡ inner_performs program_of table.now program.old (record_is outer) (record_is inner) (stacks_of registers.old places.old) give_up }
 {
-    let below = outer.state;
-    let above = inner.state;
-    let kinds = [0u8; 1];
-    let values = [0i32; 1];
     hand_back(perform(
         Call::GiveUp,
-        below,
-        above,
+        outer.state,
+        inner.state,
         table,
         registers,
         places,
         program,
-        &kinds,
-        &values,
+        &[],
+        &[],
     ))
 }

@@ -42,11 +42,10 @@ fn open_over(
     ensures { (g : Grammar) → HasProgram g program.old → inner_leaves result registers.new places.new program.new
         ≡ (let m = stacks_of registers.old places.old in when_outer_fits g (state_is outer) m program.old (called_inside table.now program.old (state_is outer) closed_record m (opened_inside (state_is outer) m))) }
 {
-    let number = crate::judging::judge(registers, places, program, outer);
-    if number != 0 {
-        return crate::states::not_opened(outer, Answer::Refused { number, tokens: 0 });
+    match crate::judging::judge(registers, places, program, outer) {
+        Err(refusal) => crate::states::not_opened(outer, Answer::turned_back(refusal)),
+        Ok(()) => open_inside(outer, table, registers, places, program),
     }
-    open_inside(outer, table, registers, places, program)
 }
 
 // The outer table; then the outer run.

@@ -2,12 +2,14 @@
 ghost use Rattle.std.specs.Prelude.{◌≡◌};
 ghost use Rattle.meaning_inner.specs.Inner as Inner;
 ghost use Rattle.records.specs.Records.{state_is, answer_is};
+ghost use Rattle.refusals.specs.Numbers.{refusal_or_zero};
 ghost use Rattle.inner.specs.states.Records.{apart_number, not_opened_from, opened_from, ended_from, went_on_from, ends_by};
 
 use records::{Answer, Handed, State};
+use refusals::Refusal;
 
 // What an inner call hands back: both states and the answer.
-#[derive(Clone, Copy)]
+#[derive(Clone, Copy, Debug, PartialEq, Eq)]
 pub struct InnerHanded {
     pub outer: State,
     pub inner: State,
@@ -15,7 +17,8 @@ pub struct InnerHanded {
 }
 
 // The later calls on an inner run.
-#[derive(Clone, Copy)]
+// Kept: `run_lent::Call` has no call that gives up, and its `match` is to have no case for one.
+#[derive(Clone, Copy, Debug, PartialEq, Eq)]
 pub enum Call {
     Feed,
     Finish,
@@ -28,32 +31,23 @@ pub enum Call {
 fn belongs(outer: State, inner: State) -> bool
     ensures { result ≡ Inner.belongs (state_is outer) (state_is inner) }
 {
-    if !outer.is_waiting() {
-        return false;
-    }
-    if !outer.is_outer() {
-        return false;
-    }
-    if !inner.is_running() {
-        return false;
-    }
-    inner.begins_at(outer.registers, outer.places)
+    outer.is_waiting()
+        && outer.is_outer()
+        && inner.is_running()
+        && inner.begins_at(outer.registers, outer.places)
 }
 
-// 33 or 34; 0 where the stretch is looked at.
-pub fn apart(outer: State, inner: State) -> u32
-    ensures { result ≡ apart_number (state_is outer) (state_is inner) }
+// 33 or 34, if the call is turned back before the stretch is looked at.
+pub fn apart(outer: State, inner: State) -> Result<(), Refusal>
+    ensures { refusal_or_zero result ≡ apart_number (state_is outer) (state_is inner) }
 {
-    if outer.is_closed() {
-        return 33;
+    if outer.is_closed() || inner.is_closed() {
+        Err(Refusal::Closed)
+    } else if belongs(outer, inner) {
+        Ok(())
+    } else {
+        Err(Refusal::Unfit)
     }
-    if inner.is_closed() {
-        return 33;
-    }
-    if belongs(outer, inner) {
-        return 0;
-    }
-    34
 }
 
 // ---- what is handed back
@@ -72,27 +66,23 @@ pub fn not_opened(outer: State, answer: Answer) -> InnerHanded
 pub fn opened(outer: State, handed: Handed) -> InnerHanded
     ensures { result ≡ opened_from outer handed }
 {
-    let state = handed.state;
-    let answer = handed.answer;
-    if !state.is_open() {
-        return not_opened(outer, answer);
+    if !handed.state.is_open() {
+        return not_opened(outer, handed.answer);
     }
     InnerHanded {
         outer: outer.waiting(),
-        inner: state.inside(outer.registers, outer.places),
-        answer,
+        inner: handed.state.inside(outer.registers, outer.places),
+        answer: handed.answer,
     }
 }
 
 pub fn went_on(outer: State, inner: State, handed: Handed) -> InnerHanded
     ensures { result ≡ went_on_from outer inner handed }
 {
-    let state = handed.state;
-    let answer = handed.answer;
     InnerHanded {
         outer,
-        inner: state.like(inner),
-        answer,
+        inner: handed.state.like(inner),
+        answer: handed.answer,
     }
 }
 
@@ -100,35 +90,25 @@ pub fn went_on(outer: State, inner: State, handed: Handed) -> InnerHanded
 pub fn ended(outer: State, inner: State, handed: Handed) -> InnerHanded
     ensures { result ≡ ended_from outer inner handed }
 {
-    let state = handed.state;
-    let answer = handed.answer;
     InnerHanded {
         outer: outer.resumed(),
-        inner: state.closed().like(inner),
-        answer,
+        inner: handed.state.closed().like(inner),
+        answer: handed.answer,
     }
 }
 
 fn goes_on(answer: Answer) -> bool
     ensures { result ≡ Inner.goes_on (answer_is answer) }
 {
-    match answer {
-        Answer::More(moves) => true,
-        Answer::Value(value, moves) => false,
-        Answer::Refused { number, tokens } => false,
-        Answer::TableRefused { number, offset } => false,
-    }
+    matches!(answer, Answer::More(_))
 }
 
 // 02 (h): "by finish, a refusal that closes it, or giving up".
 pub fn ends(call: Call, handed: Handed) -> bool
     ensures { result ≡ ends_by call handed }
 {
-    let state = handed.state;
-    let answer = handed.answer;
     match call {
-        Call::Feed => !state.is_open(),
-        Call::Finish => !state.is_open(),
-        Call::GiveUp => goes_on(answer),
+        Call::Feed | Call::Finish => !handed.state.is_open(),
+        Call::GiveUp => goes_on(handed.answer),
     }
 }

@@ -34,11 +34,7 @@ pub fn open_above(
 fn gives_up(call: Call) -> bool
     ensures { result ≡ gives_up call }
 {
-    match call {
-        Call::Feed => false,
-        Call::Finish => false,
-        Call::GiveUp => true,
-    }
+    call == Call::GiveUp
 }
 
 // The engine's own call. Giving up is a feed.
@@ -46,9 +42,8 @@ fn engine_call(call: Call) -> run_lent::Call
     ensures { result ≡ engine_call_for call }
 {
     match call {
-        Call::Feed => run_lent::Call::Feed,
+        Call::Feed | Call::GiveUp => run_lent::Call::Feed,
         Call::Finish => run_lent::Call::Finish,
-        Call::GiveUp => run_lent::Call::Feed,
     }
 }
 
@@ -102,8 +97,15 @@ fn call_stretch(
     ensures { (g : Grammar) → HasProgram g program.now → inner_handed_is result registers.new places.new
         ≡ stretch_called g (state_is outer) (state_is inner) (stacks_of registers.old places.old) (call_is call kinds.now values.now) }
 {
-    let alone = inner.alone();
-    let handed = call_cells(call, registers, places, program, alone, kinds, values);
+    let handed = call_cells(
+        call,
+        registers,
+        places,
+        program,
+        inner.alone(),
+        kinds,
+        values,
+    );
     if ends(call, handed) {
         run_cells::clear_registers(registers);
         run_cells::clear_places(places);
@@ -126,12 +128,11 @@ pub fn call_above(
     requires { Readable program.now }
     ensures { (g : Grammar) → HasProgram g program.now → inner_handed_is result registers.new places.new ≡ inner_of g (state_is outer) (state_is inner) (stacks_of registers.old places.old) (call_is call kinds.now values.now) }
 {
-    let number = apart(outer, inner);
-    if number != 0 {
+    if let Err(refusal) = apart(outer, inner) {
         return InnerHanded {
             outer,
             inner,
-            answer: Answer::Refused { number, tokens: 0 },
+            answer: Answer::turned_back(refusal),
         };
     }
     let n = run_cells::smaller(registers.len(), limits::REGISTERS);

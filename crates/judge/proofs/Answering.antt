@@ -18,8 +18,9 @@ use Rattle.outline.specs.Images.{ImageOf, row_start, size_at, right_is, size_is,
 use Rattle.outline.specs.Outline.{grammar_in, Productions, Outline}
 use Rattle.checker.specs.Judging.{Accepts, Judges}
 use Rattle.checker.proofs.Cases.{accepted_case, refused_case}
-use Rattle.checker.specs.declared.grammar.Judged as Table
-use Rattle.checker.specs.declared.grammar.Judged.TheVariants as Case
+use Rattle.std.specs.Prelude.{Result, Ok, Err}
+use Rattle.refusals.specs.Numbers.{fault_number}
+use Rattle.refusals.specs.declared.TableRefusal.{TableRefusal}
 use Rattle.meaning_judge.specs.Judge.{JudgeAnswer, JudgedAs, SettlesIf, SettlesUnder, Settles, turned_back}
 use Rattle.theory_judge.specs.Marks.{leaves_many}
 use Rattle.theory_judge.specs.Whole.{none_many, settles_none}
@@ -66,11 +67,11 @@ module _ {t rows offsets : List ℕ} {count : ℕ} (x : Productions t rows offse
 
 -- ---- the call
 
-module _ (t inherited synthesized rows offsets sets : List ℕ) (q : Table.Judged) (j : Judges t inherited synthesized rows offsets sets q) (ks : List ℕ) (vs : List ℤ) (sheet : List ℕ) where
-  pub answer_refused : (n o : ℕ) → q ≡ Case.Unusable n o → JudgedAs t ks vs sheet (turned_back n o)
-  answer_refused n o e = subst (λ c. SettlesUnder c ks vs sheet (turned_back n o)) (sym (refused_case t inherited synthesized rows offsets sets q j n o e)) refl
+module _ (t inherited synthesized rows offsets sets : List ℕ) (q : Result Sizes TableRefusal) (j : Judges t inherited synthesized rows offsets sets q) (ks : List ℕ) (vs : List ℤ) (sheet : List ℕ) where
+  pub answer_refused : (r : TableRefusal) → q ≡ Err r → JudgedAs t ks vs sheet (turned_back (fault_number r.fault) r.offset)
+  answer_refused r e = subst (λ c. SettlesUnder c ks vs sheet (turned_back (fault_number r.fault) r.offset)) (sym (refused_case t inherited synthesized rows offsets sets q j r e)) refl
 
-  module _ (sizes : Sizes) (e : q ≡ Case.Usable sizes) where
+  module _ (sizes : Sizes) (e : q ≡ Ok sizes) where
     abbrev accepts : Accepts t sizes inherited synthesized rows offsets sets
     accepts = accepted_case t inherited synthesized rows offsets sets q j sizes e
 

@@ -4,7 +4,6 @@
 ghost use Rattle.meaning_judge.specs.Judge.{JudgedAs};
 ghost use Rattle.judge_sheet.specs.Judged.{judgement_is};
 
-use checker::grammar::Judged;
 use judge_sheet::Judgement;
 use limits::{NONTERMINALS, PRODUCTIONS, ROWS};
 
@@ -28,8 +27,11 @@ pub fn judge(table: &[u8], kinds: &[u8], values: &[i32], sheet: &[u8]) -> Judgem
         &mut offsets,
         &mut sets,
     ) {
-        Judged::Unusable { number, offset } => Judgement::Unusable { number, offset },
-        Judged::Usable(sizes) => {
+        Err(refusal) => Judgement::Unusable {
+            number: refusal.fault.number(),
+            offset: refusal.offset,
+        },
+        Ok(sizes) => {
             if kinds.len() != values.len() {
                 return Judgement::Uneven;
             }

@@ -5,7 +5,7 @@ ghost use Rattle.std.specs.Prelude.{◌≡◌, length};
 ghost use Rattle.meaning.specs.Limits.{positions_limit};
 ghost use Rattle.judge_nodes.specs.parts.Checked.{NodeReady, NodeEnds, ChildrenReady, ChildrenEnds};
 
-use crate::parts::{Answer, Begun, Node, Subtree, closed};
+use crate::parts::{Begun, Ends, Node, Subtree, begin, closed, mark_of};
 use limits::POSITIONS;
 
 pub mod head;
@@ -26,22 +26,18 @@ pub fn check_node(
     values: &[i32],
     sheet: &[u8],
     tree: Subtree,
-) -> Answer
+) -> Option<Ends>
     requires { NodeReady table.now rows.now inh.now syn.now offsets.now kinds.now values.now sheet.now tree.from tree.symbol }
     ensures { NodeEnds table.now rows.now inh.now syn.now offsets.now kinds.now values.now sheet.now tree.at tree.from tree.symbol tree.depth result }
 {
-    match crate::parts::begin(rows, inh, syn, kinds, values, sheet, tree) {
-        Begun::Over(answer) => answer,
+    match begin(rows, inh, syn, kinds, values, sheet, tree)? {
+        Begun::Token(ends) => Some(ends),
         Begun::Inside(node) => {
             let mut marks = [tree.at; POSITIONS];
-            match check_children(
+            let ends = check_children(
                 table, rows, inh, syn, offsets, kinds, values, sheet, node, &mut marks,
-            ) {
-                Answer::Wrong => Answer::Wrong,
-                Answer::Fits { next, end } => {
-                    closed(table, rows, offsets, values, sheet, &marks, node, next, end)
-                }
-            }
+            )?;
+            closed(table, rows, offsets, values, sheet, &marks, node, ends)
         }
     }
 }
@@ -59,29 +55,26 @@ pub fn check_children(
     sheet: &[u8],
     node: Node,
     marks: &mut [usize; POSITIONS],
-) -> Answer
+) -> Option<Ends>
     requires { ChildrenReady table.now rows.now inh.now syn.now offsets.now kinds.now values.now sheet.now node.production node.from × (length marks.old ≡ positions_limit) }
     ensures { ChildrenEnds table.now rows.now inh.now syn.now offsets.now kinds.now values.now sheet.now
         node.production node.behind node.from node.depth marks.old marks.new result }
 {
     let size = outline::size_of(rows, node.production);
-    let mut next = node.behind;
-    let mut end = node.from;
-    let mut k: usize = 0;
-    while k < size {
+    let mut ends = Ends {
+        next: node.behind,
+        end: node.from,
+    };
+    for k in 0..size {
         let symbol = outline::symbol_of(rows, node.production, k);
-        marks[k + 1] = crate::parts::mark_of(sheet.len(), symbol, next, end);
-        let tree = crate::parts::tree_at(next, end, symbol, node.depth);
-        match check_node(table, rows, inh, syn, offsets, kinds, values, sheet, tree) {
-            Answer::Wrong => {
-                return Answer::Wrong;
-            }
-            Answer::Fits { next: n, end: e } => {
-                next = n;
-                end = e;
-            }
-        }
-        k += 1;
+        marks[k + 1] = mark_of(sheet.len(), symbol, ends.next, ends.end);
+        let tree = Subtree {
+            at: ends.next,
+            from: ends.end,
+            symbol,
+            depth: node.depth,
+        };
+        ends = check_node(table, rows, inh, syn, offsets, kinds, values, sheet, tree)?;
     }
-    Answer::Fits { next, end }
+    Some(ends)
 }

@@ -8,15 +8,17 @@ ghost use Rattle.program_words.specs.Fields.{fields_from, stretch_end};
 ghost use Rattle.program_block_words.specs.Fields.{Listed};
 ghost use Rattle.theory_judge.specs.Marks.{read_at, mark_of};
 ghost use Rattle.theory_judge.specs.Holding.{listed_true};
-ghost use Rattle.judge_nodes.specs.parts.Checked.{fields_of, TokenEnds, subtree_of, Begins, Holdable, closing};
+ghost use Rattle.judge_nodes.specs.parts.Checked.{fields_of, TokenEnds, Begins, Holdable, closing};
 
-use crate::head::Head;
+use crate::head::heading;
+use crate::marks::token_value;
+use crate::values::fields_hold;
 
 // Where the sheet goes on after a tree, and where the tokens do.
 #[derive(Clone, Copy)]
-pub enum Answer {
-    Fits { next: usize, end: usize },
-    Wrong,
+pub struct Ends {
+    pub next: usize,
+    pub end: usize,
 }
 
 // A tree to be looked for: the sheet from `at` on, the tokens from `from` on, its symbol, and its depth at most.
@@ -38,10 +40,10 @@ pub struct Node {
     pub depth: usize,
 }
 
-// What is known before the children of a node: the answer, or the node.
+// What is known before the children of a tree: where a token's ends, or the node.
 #[derive(Clone, Copy)]
 pub enum Begun {
-    Over(Answer),
+    Token(Ends),
     Inside(Node),
 }
 
@@ -61,27 +63,26 @@ pub fn holds(
 {
     let from = program_fields::fields_from(rows, offsets, p);
     let to = program_fields::stretch_end(table, offsets, outline::row_count(rows), p);
-    let fields = &table[from..to];
-    crate::values::fields_hold(fields, sheet, values, marks)
+    fields_hold(&table[from..to], sheet, values, marks)
 }
 
 // Whether the token at `from` is of this kind. A token has no record. Its value is in range, as every one of 32 bits is.
-pub fn check_token(kinds: &[u8], values: &[i32], at: usize, from: usize, symbol: u8) -> Answer
+pub fn check_token(kinds: &[u8], values: &[i32], at: usize, from: usize, symbol: u8) -> Option<Ends>
     ensures { TokenEnds kinds.now values.now at from symbol result }
 {
     if kinds.len() <= from {
-        return Answer::Wrong;
+        return None;
     }
     if kinds[from] != symbol {
-        return Answer::Wrong;
+        return None;
     }
-    if value::in_range(crate::marks::token_value(values, from)) {
-        return Answer::Fits {
-            next: at,
-            end: from + 1,
-        };
+    if !value::in_range(token_value(values, from)) {
+        return None;
     }
-    Answer::Wrong
+    Some(Ends {
+        next: at,
+        end: from + 1,
+    })
 }
 
 // The mark of a symbol: its record's place, or behind the sheet its token's number.
@@ -89,22 +90,7 @@ pub fn mark_of(length: usize, symbol: u8, at: usize, from: usize) -> usize
     requires { length + from < 18446744073709551616 }
     ensures { result ≡ mark_of length (symbol_of symbol) at from }
 {
-    if symbol < 128 {
-        return length + from;
-    }
-    at
-}
-
-// The tree of this symbol there.
-pub fn tree_at(at: usize, from: usize, symbol: u8, depth: usize) -> Subtree
-    ensures { result ≡ subtree_of at from symbol depth }
-{
-    Subtree {
-        at,
-        from,
-        symbol,
-        depth,
-    }
+    if symbol < 128 { length + from } else { at }
 }
 
 // What is judged before the children: a token, the depth, and a node's own record.
@@ -116,34 +102,29 @@ pub fn begin(
     values: &[i32],
     sheet: &[u8],
     tree: Subtree,
-) -> Begun
+) -> Option<Begun>
     requires { nonterminal_base ≤ tree.symbol → byte inherited.now (tree.symbol - nonterminal_base) + byte synthesized.now (tree.symbol - nonterminal_base) ≤ attributes_limit }
     ensures { Begins rows.now inherited.now synthesized.now kinds.now values.now sheet.now tree result }
 {
     if tree.symbol < 128 {
-        return Begun::Over(check_token(kinds, values, tree.at, tree.from, tree.symbol));
+        let ends = check_token(kinds, values, tree.at, tree.from, tree.symbol)?;
+        return Some(Begun::Token(ends));
     }
     if tree.depth == 0 {
-        return Begun::Over(Answer::Wrong);
+        return None;
     }
     let m = (tree.symbol - 128) as usize;
-    match crate::head::heading(rows, inherited, synthesized, sheet, tree.at, tree.from, m) {
-        Head::Unfit => Begun::Over(Answer::Wrong),
-        Head::Found {
-            production,
-            behind,
-            covered,
-        } => Begun::Inside(Node {
-            production,
-            behind,
-            from: tree.from,
-            covered,
-            depth: tree.depth - 1,
-        }),
-    }
+    let head = heading(rows, inherited, synthesized, sheet, tree.at, tree.from, m)?;
+    Some(Begun::Inside(Node {
+        production: head.production,
+        behind: head.behind,
+        from: tree.from,
+        covered: head.covered,
+        depth: tree.depth - 1,
+    }))
 }
 
-// What is judged behind the children, which end at `next` and `end`: the tokens covered, the rules and the conditions.
+// What is judged behind the children, which end there: the tokens covered, the rules and the conditions.
 pub fn closed(
     table: &[u8],
     rows: &[u8],
@@ -152,17 +133,16 @@ pub fn closed(
     sheet: &[u8],
     marks: &[usize],
     node: Node,
-    next: usize,
-    end: usize,
-) -> Answer
-    requires { Holdable table.now rows.now offsets.now node.production × (node.from ≤ end) }
-    ensures { (x : Listed (fields_of table.now rows.now offsets.now node.production)) → result ≡ closing (listed_true (read_at sheet.now values.now marks.now) x) node next end }
+    ends: Ends,
+) -> Option<Ends>
+    requires { Holdable table.now rows.now offsets.now node.production × (node.from ≤ ends.end) }
+    ensures { (x : Listed (fields_of table.now rows.now offsets.now node.production)) → result ≡ closing (listed_true (read_at sheet.now values.now marks.now) x) node ends }
 {
-    if end - node.from != node.covered {
-        return Answer::Wrong;
+    if ends.end - node.from != node.covered {
+        return None;
     }
-    if holds(table, rows, offsets, values, sheet, marks, node.production) {
-        return Answer::Fits { next, end };
+    if !holds(table, rows, offsets, values, sheet, marks, node.production) {
+        return None;
     }
-    Answer::Wrong
+    Some(ends)
 }

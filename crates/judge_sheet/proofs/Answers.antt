@@ -18,9 +18,9 @@ use Rattle.theory_judge.specs.Whole.{none_wrong, none_longer, none_tokens, settl
 use Rattle.outline.specs.Images.{symbol_nonterminal}
 use Rattle.outline.specs.Outline.{grammar_in}
 use Rattle.judge_nodes.specs.parts.Checked.{leaves_in, EndsOrNone, NodeReady, NodeEnds}
-use Rattle.judge_nodes.specs.parts.Laws.{ends_of_fits, none_of_wrong}
-use Rattle.judge_nodes.specs.declared.parts.Answer as Answer
-use Rattle.judge_nodes.specs.declared.parts.Answer.TheVariants.{Fits, Wrong}
+use Rattle.judge_nodes.specs.parts.Laws.{fits, ends_of_fits, none_of_wrong}
+use Rattle.std.proofs.Common.{Option, None}
+use Rattle.judge_nodes.specs.declared.parts.Ends.{Ends}
 use Rattle.judge_sheet.specs.Judged.{SheetReady}
 
 module _ {table rows inherited synthesized offsets ks : List ℕ} {vs : List ℤ} {sheet : List ℕ} {start result : ℕ} (y : SheetReady table rows inherited synthesized offsets ks vs sheet start result) where
@@ -42,14 +42,14 @@ module _ {table rows inherited synthesized offsets ks : List ℕ} {vs : List ℤ
   few_leaves : length (leaves_in g ks vs) < 4294967296
   few_leaves = omega (arith, leaves_many g ks vs y.book.even, y.book.few)
 
-  module _ (r : Answer.Answer) (t : NodeEnds table rows inherited synthesized offsets ks vs sheet 0 0 (nonterminal_base + start) depth_limit r) where
+  module _ (r : Option Ends) (t : NodeEnds table rows inherited synthesized offsets ks vs sheet 0 0 (nonterminal_base + start) depth_limit r) where
     ends_there : EndsOrNone (Described g (leaves_in g ks vs) sheet 0 0 (nonterminal g.start) depth_limit) r
     ends_there = subst (λ z. EndsOrNone (Described g (leaves_in g ks vs) sheet 0 0 z depth_limit) r) start_is (t root_ready)
 
-    pub sheet_wrong : r ≡ Wrong → Settles g (leaves_in g ks vs) sheet (turned_back 43 0)
+    pub sheet_wrong : r ≡ None → Settles g (leaves_in g ks vs) sheet (turned_back 43 0)
     sheet_wrong w = settles_none g y.book.productions.rows_of.sound ks vs sheet (none_wrong g y.book.productions.rows_of.sound ks vs sheet (none_of_wrong _ r ends_there w))
 
-    module _ (n e : ℕ) (f : r ≡ Fits n e) where
+    module _ (n e : ℕ) (f : r ≡ fits n e) where
       only : Only (Described g (leaves_in g ks vs) sheet 0 0 (nonterminal g.start) depth_limit) n e
       only = ends_of_fits r n e ends_there f
 

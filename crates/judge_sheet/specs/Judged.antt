@@ -1,11 +1,11 @@
 -- 02's numbers for the answers of the check of a sheet, and what it asks and promises of a table that is accepted.
-use Rattle.std.specs.Prelude.{ℕ, ◌+◌, ◌≡◌, List, ℤ}
+use Rattle.std.specs.Prelude.{ℕ, ◌+◌, ◌≡◌, Option, List, ℤ}
 use Rattle.meaning.specs.Limits.{depth_limit}
 use Rattle.meaning.specs.Grammar.{nonterminal_base}
 use Rattle.meaning_judge.specs.Judge.{JudgeAnswer, worth, turned_back, Settles}
 use Rattle.outline.specs.Outline.{grammar_in}
 use Rattle.judge_nodes.specs.parts.Checked.{Book, leaves_in, NodeEnds}
-use Rattle.judge_nodes.specs.declared.parts.Answer as Answer
+use Rattle.judge_nodes.specs.declared.parts.Ends.{Ends}
 use Rattle.judge_sheet.specs.declared.Judgement.{Judgement}
 use Rattle.judge_sheet.specs.declared.Judgement.TheVariants.{Value, Uneven, Wrong, Unusable}
 
@@ -26,7 +26,7 @@ SheetSettled table rows inherited synthesized offsets ks vs sheet start result r
     (x : SheetReady table rows inherited synthesized offsets ks vs sheet start result) → Settles (grammar_in table) (leaves_in (grammar_in table) ks vs) sheet (judgement_is r)
 
 -- what the answer for the root comes to, under any table
-abbrev pub RootSettled : List ℕ → List ℤ → List ℕ → ℕ → Answer.Answer → Judgement → Type 0
+abbrev pub RootSettled : List ℕ → List ℤ → List ℕ → ℕ → Option Ends → Judgement → Type 0
 RootSettled ks vs sheet result a r =
     (table rows inherited synthesized offsets : List ℕ) (start : ℕ) (x : SheetReady table rows inherited synthesized offsets ks vs sheet start result)
     → NodeEnds table rows inherited synthesized offsets ks vs sheet 0 0 (nonterminal_base + start) depth_limit a → Settles (grammar_in table) (leaves_in (grammar_in table) ks vs) sheet (judgement_is r)

@@ -4,7 +4,7 @@
 ghost use Rattle.std.specs.Prelude.{◌<◌};
 ghost use Rattle.judge_sheet.specs.Judged.{RootSettled, SheetReady, SheetSettled};
 
-use judge_nodes::parts::Answer;
+use judge_nodes::parts::{Ends, Subtree};
 use limits::DEPTH;
 
 // The root's value; kinds and values are not equally many (38); the sheet is not accepted (43); or the table is refused.
@@ -16,18 +16,24 @@ pub enum Judgement {
     Unusable { number: u32, offset: u32 },
 }
 
-// By the answer for the root: its tree is over all tokens, and nothing is after it.
-fn judge_root(answer: Answer, kinds: &[u8], values: &[i32], sheet: &[u8], res: usize) -> Judgement
+// By where the root's tree ends, if it is described: it is over all tokens, and nothing is after it.
+fn judge_root(
+    root: Option<Ends>,
+    kinds: &[u8],
+    values: &[i32],
+    sheet: &[u8],
+    res: usize,
+) -> Judgement
     requires { res < 256 }
-    ensures { RootSettled kinds.now values.now sheet.now res answer result }
+    ensures { RootSettled kinds.now values.now sheet.now res root result }
 {
-    match answer {
-        Answer::Wrong => Judgement::Wrong,
-        Answer::Fits { next, end } => {
-            if next != sheet.len() {
+    match root {
+        None => Judgement::Wrong,
+        Some(ends) => {
+            if ends.next != sheet.len() {
                 return Judgement::Wrong;
             }
-            if end != kinds.len() {
+            if ends.end != kinds.len() {
                 return Judgement::Wrong;
             }
             Judgement::Value(judge_nodes::marks::read_mark(sheet, values, 0, res))
@@ -52,8 +58,13 @@ pub fn judge_sheet(
     ensures { SheetSettled table.now rows.now inherited.now synthesized.now offsets.now kinds.now values.now sheet.now start res result }
 {
     let symbol = (128 + start) as u8;
-    let root = judge_nodes::parts::tree_at(0, 0, symbol, DEPTH);
-    let answer = judge_nodes::check_node(
+    let tree = Subtree {
+        at: 0,
+        from: 0,
+        symbol,
+        depth: DEPTH,
+    };
+    let root = judge_nodes::check_node(
         table,
         rows,
         inherited,
@@ -62,7 +73,7 @@ pub fn judge_sheet(
         kinds,
         values,
         sheet,
-        root,
+        tree,
     );
-    judge_root(answer, kinds, values, sheet, res)
+    judge_root(root, kinds, values, sheet, res)
 }

@@ -23,14 +23,14 @@ fn print_rest(rt: &impl Print, program: &[u32], from: Cursor, out: &mut [u8]) ->
     requires { 64 ≤ length out.old }
 {
     let mut c = from;
+    // Kept: page after page, until a page says that it is the last.
     loop {
         let page = listing_pages::next_page(program, c, out);
         put(rt, out, page.length)?;
         if page.over {
             return Ok(());
         }
-        let next = page.next;
-        c = next;
+        c = page.next;
     }
 }
 
@@ -50,7 +50,8 @@ fn print(rt: &impl Print, table: &[u8]) -> io::Result<()> {
 fn read_full(input: &mut impl Read, into: &mut [u8]) -> io::Result<usize>
     ensures { IfOk result (λ n. n ≤ length into.new) }
 {
-    let mut filled: usize = 0;
+    let mut filled = 0;
+    // Kept: the walk goes on by as many bytes as each read gives
     while filled < into.len() {
         let n = input.read(&mut into[filled..])?;
         if n == 0 {

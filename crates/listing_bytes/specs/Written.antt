@@ -1,7 +1,10 @@
 -- Text written into a buffer at a position: what the buffer holds then, and the position behind the text.
 use Rattle.std.specs.Prelude.{ℕ, suc, ◌+◌, ◌≤◌, ◌<◌, ◌≡◌, refl, List, [], ◌∷◌, ◌++◌, length, get_or, set, take, drop}
 use Rattle.std.proofs.Common.{add-one, zero-add, arith, sym, ap, ◌∙◌, subst, length-append, take-suc}
+use Rattle.std.proofs.lemmas.List.{take_all}
 use Rattle.std.proofs.lemmas.List.Edits.{sets, sets-eq}
+use Rattle.std.proofs.lemmas.Slice.{put_mid-paste}
+use borrow.Rule.Slice.PartMut.{put_mid}
 use Rattle.meaning.specs.PublicCalls.{written}
 
 pub record Wrote (before : List ℕ) (at : ℕ) (text : List ℕ) (after : List ℕ) (end : ℕ) : Type 0 where
@@ -33,3 +36,14 @@ pub wrote_next : {m n : List ℕ} {at : ℕ} (t : List ℕ) (i : ℕ) → i < le
 wrote_next {m} {n} {at} t i l w =
     let one : Wrote n (at + i) (get_or t i 0 ∷ []) (set n (at + i) (get_or t i 0)) (at + (i + 1)) = record { memory = refl; behind = omega arith } in
     wrote_as (sym (ap (λ k. take k t) (add-one i) ∙ take-suc t i 0 l)) (w then one)
+
+-- a text copied over a part of the buffer
+pub wrote_part : (m : List ℕ) (at k : ℕ) (part text : List ℕ) → part ≡ text → k ≡ length text → at + k ≤ length m → Wrote m at text (put_mid at k m part) (at + length text)
+wrote_part m at k part text e l h =
+    record {
+      memory =
+          put_mid-paste at k m part text k e refl l
+          ∙ (ap (λ z. take at m ++ z ++ drop (at + k) m) (take_all k text (omega arith))
+          ∙ (ap (λ n. take at m ++ text ++ drop (at + n) m) l ∙ sym (sets-eq text m at (omega arith))));
+      behind = refl;
+    }

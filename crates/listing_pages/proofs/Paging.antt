@@ -8,6 +8,8 @@ use borrow.Author.Tests.{lt-ltb, le-ltb}
 use lib.Dec.{ltb}
 use lib.ListN.{length, take, drop, length-append, length-drop, drop_of_length-le}
 use lib.Seq.{take_all, take_at, drop_at, drop-drop}
+use Rattle.std.proofs.Common.{Option, Some, None, not}
+use Rattle.std.specs.Option.{is_some}
 use borrow.Rule.Slice.PartMut.{put_mid, put_same}
 use Rattle.meaning.specs.Listing.{Text}
 use Rattle.meaning.specs.PublicCalls.{written, joined}
@@ -125,26 +127,30 @@ module _ {ws before : List ℕ} {c₀ : Cursor} {out : List ℕ} {filled : ℕ} 
   none_behind : drop room (drop filled out) ≡ []
   none_behind = drop_of_length-le (drop filled out) {i = room} (omega (arith, length-drop filled out))
 
-  module _ (r : Line) (after : List ℕ) (t : FirstLineOrOver ws (lines_left ws c) (take room (drop filled out)) after r) where
-    pub line_turn : filled + line_room ≤ length before → r.over ≡ false → Filled ws before c₀ (put_mid filled room out after) (filled + r.length) r.next
-    line_turn l e =
-        let x = first_of_lines ws (lines_left ws c) r e t in
+  module _ (r : Option Line) (after : List ℕ) (t : FirstLineOrOver ws (lines_left ws c) (take room (drop filled out)) after r) where
+    pub line_turn : (line : Line) → filled + line_room ≤ length before → r ≡ Some line → Filled ws before c₀ (put_mid filled room out after) (filled + line.length) line.next
+    line_turn line l e =
+        let x = first_of_lines ws (lines_left ws c) r line e t in
         let same : put_mid filled room out after ≡ take filled out ++ written x.0 (drop filled out) = ap₂ (λ s z. take filled out ++ (s ++ z)) (x.3 ∙ ap (written x.0) all_room) none_behind ∙ ap (λ s. take filled out ++ s) (append-nil (written x.0 (drop filled out))) in
-        subst (λ z. Filled ws before c₀ z (filled + r.length) r.next) (sym same) (filled_turn x.0 r.next r.length l x.1 x.2)
+        subst (λ z. Filled ws before c₀ z (filled + line.length) line.next) (sym same) (filled_turn x.0 line.next line.length l x.1 x.2)
 
-    pub line_less : r.over ≡ false → length (lines_left ws r.next) < length (lines_left ws c)
-    line_less e = let x = first_of_lines ws (lines_left ws c) r e t in omega (arith, ap length x.1)
+    pub line_less : (line : Line) → r ≡ Some line → length (lines_left ws line.next) < length (lines_left ws c)
+    line_less line e = let x = first_of_lines ws (lines_left ws c) r line e t in omega (arith, ap length x.1)
 
-    pub line_over : r.over ≡ true → filled ≤ length before → Shows (lines_left ws c₀) ws before (put_mid filled room out after) (record { length = filled; over = true; next = c })
+    pub line_over : r ≡ None → filled ≤ length before → Shows (lines_left ws c₀) ws before (put_mid filled room out after) (record { length = filled; over = true; next = c })
     line_over e l =
         let x = none_of_lines ws (lines_left ws c) r e t in
         subst (λ z. Shows (lines_left ws c₀) ws before z (record { length = filled; over = true; next = c })) (sym (ap (put_mid filled room out) x.1 ∙ put_same filled room out)) (filled_over l x.0)
 
 -- ---- a line asked for aside says whether one is left
 
-pub none_of_lines_left : (ws : List ℕ) (ls : List Text) (before after : List ℕ) (r : Line) → FirstLineOrOver ws ls before after r → r.over ≡ is_none ls
-none_of_lines_left ws [] before after r t = t.0
-none_of_lines_left ws (l ∷ ls) before after r t = t.0
+not_some : (b c : Bool) → c ≡ not b → b ≡ not c
+not_some true c e = sym (ap not e)
+not_some false c e = sym (ap not e)
+
+pub none_of_lines_left : (ws : List ℕ) (ls : List Text) (before after : List ℕ) (r : Option Line) (b : Bool) → is_some r ≡ not b → FirstLineOrOver ws ls before after r → b ≡ is_none ls
+none_of_lines_left ws [] before after r b e t = not_some b (is_some r) e ∙ ap (λ z. not (is_some z)) t.0
+none_of_lines_left ws (l ∷ ls) before after r b e t = not_some b (is_some r) e ∙ ap (λ z. not (is_some z)) t.1
 
 -- ---- what is printed for a table
 

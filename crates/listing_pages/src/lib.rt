@@ -26,25 +26,24 @@ pub fn next_page(program: &[u32], cursor: Cursor, out: &mut [u8]) -> Page
     ensures onward { Onward program.now cursor result }
 {
     let mut c = cursor;
-    let mut filled: usize = 0;
+    let mut filled = 0;
+    // Kept: the walk goes on by each line's length, not by one
     while filled <= out.len() - LINE {
-        let line = listing_text::next_line(program, c, &mut out[filled..]);
-        if line.over {
+        let Some(line) = listing_text::next_line(program, c, &mut out[filled..]) else {
             return Page {
                 length: filled,
                 over: true,
                 next: c,
             };
-        }
+        };
         filled += line.length;
-        let next = line.next;
-        c = next;
+        c = line.next;
     }
     let mut aside = [0u8; LINE];
-    let line = listing_text::next_line(program, c, &mut aside);
+    let over = listing_text::next_line(program, c, &mut aside).is_none();
     Page {
         length: filled,
-        over: line.over,
+        over,
         next: c,
     }
 }

@@ -6,6 +6,9 @@ use Rattle.meaning.specs.Listing.{Text}
 use Rattle.theory_program.specs.Parts.{head_operation, head_operand}
 use Rattle.theory_program.specs.Unpacked.{rule_from, condition_from}
 use Rattle.listing_lines.specs.Line.{add_line, rule_line, condition_line, remove_line}
+use Rattle.program_parts.specs.declared.Items.{Items as Kind}
+use Rattle.program_parts.specs.declared.Items.TheVariants.{Rules, Conditions}
+use Rattle.program_parts.specs.Items.{are_rules}
 use Rattle.listing_text.specs.declared.Cursor.{Cursor}
 use Rattle.listing_text.specs.Lines.{position_at}
 
@@ -25,11 +28,11 @@ record_word ws i k = word_at ws (word_at ws 2 + 8 * i + k)
 
 -- the cursor before a production's first line: at its entry tests
 abbrev pub start_of : List ℕ → ℕ → Cursor
-start_of ws i = record { production = i; passed = 0; rules = false; left = record_word ws i 5; at = record_word ws i 4 + record_word ws i 7 }
+start_of ws i = record { production = i; passed = 0; items = Conditions; left = record_word ws i 5; at = record_word ws i 4 + record_word ws i 7 }
 
 -- in the same production
-abbrev pub go_on : Cursor → ℕ → Bool → ℕ → ℕ → Cursor
-go_on c k r n a = record { production = c.production; passed = k; rules = r; left = n; at = a }
+abbrev pub go_on : Cursor → ℕ → Kind → ℕ → ℕ → Cursor
+go_on c k r n a = record { production = c.production; passed = k; items = r; left = n; at = a }
 
 abbrev pub inside_of : List ℕ → Cursor → Bool
 inside_of ws c = ltb c.production (word_at ws 6) && (ltb c.at area_length && leb c.passed symbols_limit)
@@ -43,9 +46,9 @@ skips_of ws c = not (ltb 0 c.left) && (inside_of ws c && silent (operation_at ws
 
 -- behind an instruction with the word w that has no line of its own
 abbrev pub skipped_by : Bool → Bool → Cursor → ℕ → Cursor
-skipped_by true t c n = go_on c c.passed true n (c.at + 1)
-skipped_by false true c n = go_on c c.passed false n (c.at + 1)
-skipped_by false false c n = go_on c (c.passed + 1) false 0 (c.at + 1)
+skipped_by true t c n = go_on c c.passed Rules n (c.at + 1)
+skipped_by false true c n = go_on c c.passed Conditions n (c.at + 1)
+skipped_by false false c n = go_on c (c.passed + 1) Conditions 0 (c.at + 1)
 
 abbrev pub skipped : List ℕ → Cursor → Cursor
 skipped ws c = skipped_by (eqb (operation_at ws c) evaluate_operation) (eqb (operation_at ws c) test_operation) c (operand_at ws c)
@@ -60,19 +63,19 @@ abbrev pub rule_here : List ℕ → Cursor → Text
 rule_here ws c = rule_line c.production (position_of ws c) (rule_from (word_at ws c.at) (word_at ws (c.at + 1)))
 
 abbrev pub behind_rule : Cursor → Cursor
-behind_rule c = go_on c c.passed true (c.left - 1) (c.at + 2)
+behind_rule c = go_on c c.passed Rules (c.left - 1) (c.at + 2)
 
 abbrev pub condition_here : List ℕ → Cursor → Text
 condition_here ws c = condition_line c.production c.passed (condition_from (word_at ws c.at) (word_at ws (c.at + 1)) (word_at ws (c.at + 2)))
 
 abbrev pub behind_condition : Cursor → Cursor
-behind_condition c = go_on c c.passed false (c.left - 1) (c.at + 3)
+behind_condition c = go_on c c.passed Conditions (c.left - 1) (c.at + 3)
 
 abbrev pub add_here : List ℕ → Cursor → Text
 add_here ws c = add_line c.production (c.passed + 1) (operand_at ws c)
 
 abbrev pub behind_add : Cursor → Cursor
-behind_add c = go_on c c.passed false 0 (c.at + 1)
+behind_add c = go_on c c.passed Conditions 0 (c.at + 1)
 
 abbrev pub remove_here : List ℕ → Cursor → Text
 remove_here ws c = remove_line c.production (operand_at ws c)
@@ -89,7 +92,7 @@ pick_step true s t = s
 pick_step false s t = t
 
 abbrev pub item_step : List ℕ → Cursor → NextLine
-item_step ws c = pick_step c.rules (emit (rule_here ws c) (behind_rule c)) (emit (condition_here ws c) (behind_condition c))
+item_step ws c = pick_step (are_rules c.items) (emit (rule_here ws c) (behind_rule c)) (emit (condition_here ws c) (behind_condition c))
 
 abbrev pub head_step : List ℕ → Cursor → NextLine
 head_step ws c = pick_step (eqb (operation_at ws c) add_operation) (emit (add_here ws c) (behind_add c)) (emit (remove_here ws c) (start_of ws (c.production + 1)))

@@ -1,6 +1,7 @@
 -- Each step of a cursor goes ahead, so there are lines enough: the lines left are those of the next step.
 use Rattle.std.specs.Prelude.{ℕ, zero, suc, ◌<◌, ◌≡◌, refl, Bool, true, false, List, ◌∷◌, eqb, ltb}
 use Rattle.std.proofs.Common.{arith, ap}
+use Rattle.program_parts.specs.Items.{are_rules}
 use Rattle.listing_text.specs.declared.Cursor.{Cursor}
 use Rattle.listing_text.specs.Cursors.{operation_at, inside_of, skips_of, skipped, NextLine, stop, skip, emit, pick_step, item_step, head_step, step_of, followed, lines_within, ahead, lines_left}
 use Rattle.listing_text.specs.Tests.{inside_facts, skips_facts, skipped_on}
@@ -18,7 +19,7 @@ module _ (ws : List ℕ) (c : Cursor) where
   onward_item : inside_of ws c ≡ true → Onward ws c (item_step ws c)
   onward_item e =
       let i = inside_facts ws c e in
-      onward_pick ws c c.rules _ _ (λ _. omega (arith, i.1)) (λ _. omega (arith, i.1))
+      onward_pick ws c (are_rules c.items) _ _ (λ _. omega (arith, i.1)) (λ _. omega (arith, i.1))
 
   onward_head : inside_of ws c ≡ true → Onward ws c (head_step ws c)
   onward_head e =

@@ -1,5 +1,5 @@
 -- A cursor at an instruction: what its word says, and what comes behind it.
-use Rattle.std.specs.Prelude.{ℕ, ◌+◌, ◌*◌, ◌≤◌, ◌≡◌, refl, true, false, List, [], ◌∷◌, ◌++◌, length, T}
+use Rattle.std.specs.Prelude.{ℕ, ◌+◌, ◌*◌, ◌≤◌, ◌≡◌, refl, true, List, [], ◌∷◌, ◌++◌, length, T}
 use Rattle.std.proofs.Common.{add-one, arith, sym, ap, ◌∙◌, subst, inl, inr, append_assoc, eq-eqb, ne_eqb, length-append}
 use Rattle.meaning.specs.Limits.{area_length}
 use Rattle.meaning.specs.Grammar.{Symbol, terminal, nonterminal, Grammar}
@@ -11,9 +11,10 @@ use Rattle.theory_program.specs.WordsStand.{stands_at, stands_left}
 use Rattle.theory_program.specs.Parts.{head_operand}
 use Rattle.theory_program.specs.Code.{CodeAt, operation, code_head, code_next, code_evaluate, code_test, rules_length, conditions_length}
 use Rattle.listing_lines.specs.Line.{add_line, remove_line}
+use Rattle.program_parts.specs.declared.Items.TheVariants.{Conditions}
 use Rattle.listing_text.specs.declared.Cursor.{Cursor}
 use Rattle.listing_text.specs.Lines.{code_lines}
-use Rattle.listing_text.specs.Pending.{Items, rules, conditions, instruction_of, are_rules, item_count, item_size, item_lines, ItemsAt, ProperItems, Ends, symbols, later, Unread, Inside, Pending, some}
+use Rattle.listing_text.specs.Pending.{Items, rules, conditions, instruction_of, kind_of, item_count, item_size, item_lines, ItemsAt, ProperItems, Ends, symbols, later, Unread, Inside, Pending, some}
 use Rattle.listing_text.specs.Cursors.{word_at, operation_at, operand_at, go_on, silent, skipped}
 
 -- no items are left
@@ -57,7 +58,7 @@ module _ {g : Grammar} {ws : List ℕ} {c : Cursor} {ls : List Text} where
   head_of (conditions (d ∷ ds)) h e = absurd (omega (arith, h.count))
 
   -- on at an instruction
-  resume : {is : List Instruction} → AtHead g ws c is ls → c.left ≡ 0 → c.rules ≡ false → Pending g ws c ls
+  resume : {is : List Instruction} → AtHead g ws c is ls → c.left ≡ 0 → c.items ≡ Conditions → Pending g ws c ls
   resume {is} h e f = some (conditions []) is (record {
     unread = h.unread;
     kind = f;
@@ -70,7 +71,7 @@ module _ {g : Grammar} {ws : List ℕ} {c : Cursor} {ls : List Text} where
   })
 
   -- on at the items of an instruction
-  on_items : (items : Items) {is : List Instruction} → AtHead g ws c (instruction_of items ∷ is) ls → Pending g ws (go_on c c.passed (are_rules items) (operand_at ws c) (c.at + 1)) ls
+  on_items : (items : Items) {is : List Instruction} → AtHead g ws c (instruction_of items ∷ is) ls → Pending g ws (go_on c c.passed (kind_of items) (operand_at ws c) (c.at + 1)) ls
   on_items items {is} h =
       let w = items_at items h.code in
       let u = items_unread items h.unread in
@@ -87,7 +88,7 @@ module _ {g : Grammar} {ws : List ℕ} {c : Cursor} {ls : List Text} where
 
 -- the next instruction, behind one of one word
 module _ {g : Grammar} {ws : List ℕ} {c : Cursor} where
-  pub on_expect_lem : {x : Symbol} {is : List Instruction} {ls : List Text} → AtHead g ws c (expect x ∷ is) ls → Pending g ws (go_on c (c.passed + 1) false 0 (c.at + 1)) ls
+  pub on_expect_lem : {x : Symbol} {is : List Instruction} {ls : List Text} → AtHead g ws c (expect x ∷ is) ls → Pending g ws (go_on c (c.passed + 1) Conditions 0 (c.at + 1)) ls
   on_expect_lem {x} {is} {ls} h = resume (record {
     unread = unread_next (omega arith) (λ e. e) h.unread;
     code = code_next h.code;
@@ -95,10 +96,10 @@ module _ {g : Grammar} {ws : List ℕ} {c : Cursor} where
     lines = h.lines ∙ ap (λ k. code_lines c.production (symbols g c) k is ++ later g c) (sym (add-one c.passed));
   }) refl refl
 
-  pub on_add_lem : {m : ℕ} {is : List Instruction} {ls : List Text} → AtHead g ws c (add m ∷ is) ls → (rest : List Text) × (ls ≡ add_line c.production (c.passed + 1) (operand_at ws c) ∷ rest) × Pending g ws (go_on c c.passed false 0 (c.at + 1)) rest
+  pub on_add_lem : {m : ℕ} {is : List Instruction} {ls : List Text} → AtHead g ws c (add m ∷ is) ls → (rest : List Text) × (ls ≡ add_line c.production (c.passed + 1) (operand_at ws c) ∷ rest) × Pending g ws (go_on c c.passed Conditions 0 (c.at + 1)) rest
   on_add_lem {m} {is} {ls} h =
       let rest = code_lines c.production (symbols g c) c.passed is ++ later g c in
-      let next : AtHead g ws (go_on c c.passed false 0 (c.at + 1)) is rest = record {
+      let next : AtHead g ws (go_on c c.passed Conditions 0 (c.at + 1)) is rest = record {
         unread = unread_next (omega arith) (λ e. e) h.unread;
         code = code_next h.code;
         fits = omega (arith, h.fits);

@@ -1,5 +1,5 @@
 -- A cursor into the program of a grammar: where it stands in a production's entry tests and scheme, and which lines of the listing are still to come.
-use Rattle.std.specs.Prelude.{ℕ, suc, ◌+◌, ◌*◌, ◌≤◌, ◌<◌, ◌≡◌, Bool, true, false, List, [], ◌∷◌, ◌++◌, length, drop, ltb}
+use Rattle.std.specs.Prelude.{ℕ, suc, ◌+◌, ◌*◌, ◌≤◌, ◌<◌, ◌≡◌, List, [], ◌∷◌, ◌++◌, length, drop, ltb}
 use Rattle.meaning.specs.Limits.{area_length}
 use Rattle.meaning.specs.Base.{In}
 use Rattle.meaning.specs.Grammar.{Rule, Condition, Grammar, production_at}
@@ -9,6 +9,8 @@ use Rattle.meaning.specs.Program.{scheme_words}
 use Rattle.meaning.specs.Listing.{Text, lines_from}
 use Rattle.theory_program.specs.Code.{CodeAt, RulesAt, ConditionsAt}
 use Rattle.theory_program.specs.Proper.{ProperRule, ProperCondition, AllProper}
+use Rattle.program_parts.specs.declared.Items.{Items as Kind}
+use Rattle.program_parts.specs.declared.Items.TheVariants.{Rules, Conditions}
 use Rattle.listing_text.specs.declared.Cursor.{Cursor}
 use Rattle.listing_text.specs.Lines.{rules_of, conditions_of, position_at, code_lines}
 
@@ -22,9 +24,9 @@ abbrev pub instruction_of : Items → Instruction
 instruction_of (rules rs) = evaluate rs
 instruction_of (conditions cs) = test cs
 
-abbrev pub are_rules : Items → Bool
-are_rules (rules rs) = true
-are_rules (conditions cs) = false
+abbrev pub kind_of : Items → Kind
+kind_of (rules rs) = Rules
+kind_of (conditions cs) = Conditions
 
 abbrev pub item_count : Items → ℕ
 item_count (rules rs) = length rs
@@ -75,7 +77,7 @@ pub record Unread (g : Grammar) (i k : ℕ) (is : List Instruction) : Type 0 whe
 -- in a production: items are left, and instructions behind them
 pub record Inside (g : Grammar) (ws : List ℕ) (c : Cursor) (items : Items) (is : List Instruction) (ls : List Text) : Type 0 where
   pub unread : Unread g c.production c.passed is
-  pub kind : c.rules ≡ are_rules items
+  pub kind : c.items ≡ kind_of items
   pub count : c.left ≡ item_count items
   pub here : ItemsAt ws c.at items
   pub behind : CodeAt ws (c.at + item_size items) is

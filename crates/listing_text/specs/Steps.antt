@@ -12,9 +12,12 @@ use Rattle.theory_program.specs.Code.{code_head, rule_first_lem, condition_first
 use Rattle.theory_program.specs.Addresses.{Begins}
 use Rattle.theory_program.specs.Unpacked.{rule_at, condition_at}
 use Rattle.listing_lines.specs.Line.{rule_line, condition_line}
+use Rattle.program_parts.specs.declared.Items.{Items as Kind}
+use Rattle.program_parts.specs.declared.Items.TheVariants.{Rules, Conditions}
+use Rattle.program_parts.specs.Items.{are_rules}
 use Rattle.listing_text.specs.declared.Cursor.{Cursor}
 use Rattle.listing_text.specs.Lines.{position_at, rules_of, conditions_of, code_lines}
-use Rattle.listing_text.specs.Pending.{Items, rules, conditions, are_rules, item_count, item_size, item_lines, ItemsAt, ProperItems, symbols, later, Inside, Pending, none, some}
+use Rattle.listing_text.specs.Pending.{Items, rules, conditions, kind_of, item_count, item_size, item_lines, ItemsAt, ProperItems, symbols, later, Inside, Pending, none, some}
 use Rattle.listing_text.specs.Cursors.{operation_at, start_of, go_on, inside_of, silent, skips_of, skipped, rule_here, behind_rule, condition_here, behind_condition, add_here, behind_add, remove_here, NextLine, stop, skip, emit, pick_step, item_step, head_step, step_of, followed, ahead, lines_left}
 use Rattle.listing_text.specs.Tests.{skips_facts, is_loud}
 use Rattle.listing_text.specs.Falling.{Onward, onward, lines_step}
@@ -76,7 +79,7 @@ module _ {g : Grammar} {ws : List ℕ} (w : WellFormed g) (b : Begins g ws) (c :
   -- the line of the first item comes first, and the other items behind it
   behind_first : {is : List Instruction} (items others : Items) (n : ℕ) (t : Text) → Inside g ws c items is ls → item_count items ≡ suc (item_count others) → item_size items ≡ n + item_size others
       → ItemsAt ws (c.at + n) others → ProperItems others → item_lines c.production (symbols g c) c.passed items ≡ t ∷ item_lines c.production (symbols g c) c.passed others
-      → First g ws ls t (go_on c c.passed (are_rules others) (c.left - 1) (c.at + n))
+      → First g ws ls t (go_on c c.passed (kind_of others) (c.left - 1) (c.at + n))
   behind_first {is} items others n t h counted sized here proper line =
       let behind = code_lines c.production (symbols g c) c.passed is ++ later g c in
       record {
@@ -95,26 +98,26 @@ module _ {g : Grammar} {ws : List ℕ} (w : WellFormed g) (b : Begins g ws) (c :
       }
 
   module _ (more : 0 < c.left) where
-    at_rule : (items : Items) (is : List Instruction) → Inside g ws c items is ls → c.rules ≡ true → First g ws ls (rule_here ws c) (behind_rule c)
+    at_rule : (items : Items) (is : List Instruction) → Inside g ws c items is ls → c.items ≡ Rules → First g ws ls (rule_here ws c) (behind_rule c)
     at_rule (rules []) is h e = absurd (omega (arith, h.count))
-    at_rule (conditions cs) is h e = absurd (subst T (sym e ∙ h.kind) tt)
+    at_rule (conditions cs) is h e = let k = h.kind in cc
     at_rule (rules (r ∷ rs)) is h e =
         let at = position_at (ltb c.passed (symbols g c)) c.passed in
         behind_first (rules (r ∷ rs)) (rules rs) 2 (rule_here ws c) h refl (omega arith) (rule_first_lem h.here).2 (λ q i. h.proper_items q (inr i))
         (λ t. rule_line c.production (position_at (ltb c.passed (sym (symbols_word w b c h.unread.listed) t)) c.passed) (sym (rule_at h.here (h.proper_items r (inl refl))) t) ∷ rules_of c.production at rs)
 
-    pub pending_rule : inside_of ws c ≡ true → c.rules ≡ true → Pending g ws c ls → First g ws ls (rule_here ws c) (behind_rule c)
+    pub pending_rule : inside_of ws c ≡ true → c.items ≡ Rules → Pending g ws c ls → First g ws ls (rule_here ws c) (behind_rule c)
     pending_rule inside e (none p f) = absurd (outside w b c inside p)
     pending_rule inside e (some items is h) = at_rule items is h e
 
-    at_condition : (items : Items) (is : List Instruction) → Inside g ws c items is ls → c.rules ≡ false → First g ws ls (condition_here ws c) (behind_condition c)
+    at_condition : (items : Items) (is : List Instruction) → Inside g ws c items is ls → c.items ≡ Conditions → First g ws ls (condition_here ws c) (behind_condition c)
     at_condition (conditions []) is h e = absurd (omega (arith, h.count))
-    at_condition (rules rs) is h e = absurd (subst T (sym h.kind ∙ e) tt)
+    at_condition (rules rs) is h e = let k = h.kind in cc
     at_condition (conditions (d ∷ ds)) is h e =
         behind_first (conditions (d ∷ ds)) (conditions ds) 3 (condition_here ws c) h refl (omega arith) (condition_first_lem h.here).3 (λ q i. h.proper_items q (inr i))
         (ap (λ q. condition_line c.production c.passed q ∷ conditions_of c.production c.passed ds) (sym (condition_at h.here (h.proper_items d (inl refl)))))
 
-    pub pending_condition : inside_of ws c ≡ true → c.rules ≡ false → Pending g ws c ls → First g ws ls (condition_here ws c) (behind_condition c)
+    pub pending_condition : inside_of ws c ≡ true → c.items ≡ Conditions → Pending g ws c ls → First g ws ls (condition_here ws c) (behind_condition c)
     pending_condition inside e (none p f) = absurd (outside w b c inside p)
     pending_condition inside e (some items is h) = at_condition items is h e
 
@@ -125,6 +128,14 @@ Follows g ws ls stop = ls ≡ []
 Follows g ws ls (skip d) = Pending g ws d ls
 Follows g ws ls (emit t d) = First g ws ls t d
 
+only_rules : (k : Kind) → are_rules k ≡ true → k ≡ Rules
+only_rules Rules e = refl
+only_rules Conditions e = cc
+
+only_conditions : (k : Kind) → are_rules k ≡ false → k ≡ Conditions
+only_conditions Rules e = cc
+only_conditions Conditions e = refl
+
 follows_pick : (g : Grammar) (ws : List ℕ) (ls : List Text) (b : Bool) (s t : NextLine) → (b ≡ true → Follows g ws ls s) → (b ≡ false → Follows g ws ls t) → Follows g ws ls (pick_step b s t)
 follows_pick g ws ls true s t h k = h refl
 follows_pick g ws ls false s t h k = k refl
@@ -133,9 +144,9 @@ module _ {g : Grammar} {ws : List ℕ} (w : WellFormed g) (b : Begins g ws) wher
   module _ (c : Cursor) (ls : List Text) (p : Pending g ws c ls) (inside : inside_of ws c ≡ true) where
     follows_item : 0 < c.left → Follows g ws ls (item_step ws c)
     follows_item more =
-        follows_pick g ws ls c.rules (emit (rule_here ws c) (behind_rule c)) (emit (condition_here ws c) (behind_condition c))
-        (λ e. pending_rule w b c more inside e p)
-        (λ e. pending_condition w b c more inside e p)
+        follows_pick g ws ls (are_rules c.items) (emit (rule_here ws c) (behind_rule c)) (emit (condition_here ws c) (behind_condition c))
+        (λ e. pending_rule w b c more inside (only_rules c.items e) p)
+        (λ e. pending_condition w b c more inside (only_conditions c.items e) p)
 
     follows_head : c.left ≡ 0 → skips_of ws c ≡ false → Follows g ws ls (head_step ws c)
     follows_head alone loud =

@@ -8,6 +8,7 @@ use Rattle.meaning.specs.Program.{add_operation, test_operation, evaluate_operat
 use Rattle.meaning.specs.Limits.{area_length, symbols_limit}
 use Rattle.theory_program.specs.Parts.{head_operation, head_operand}
 use Rattle.theory_base.specs.Members.{right_false}
+use Rattle.program_parts.specs.declared.Items.TheVariants.{Rules, Conditions}
 use Rattle.listing_text.specs.declared.Cursor.{Cursor}
 use Rattle.listing_text.specs.Cursors.{word_at, operation_at, operand_at, go_on, inside_of, silent, skips_of, skipped_by, skipped}
 
@@ -78,13 +79,13 @@ module _ (ws : List ℕ) (c : Cursor) where
     operation : head_operation v ≡ operation_at ws c
     operation = ap head_operation here
 
-    pub to_rules : head_operation v ≡ evaluate_operation → go_on c c.passed true (head_operand v) (c.at + 1) ≡ skipped ws c
-    to_rules e = ap (λ n. go_on c c.passed true (head_operand n) (c.at + 1)) here ∙ rw (eq-eqb (operation_at ws c) evaluate_operation (sym operation ∙ e)) refl
+    pub to_rules : head_operation v ≡ evaluate_operation → go_on c c.passed Rules (head_operand v) (c.at + 1) ≡ skipped ws c
+    to_rules e = ap (λ n. go_on c c.passed Rules (head_operand n) (c.at + 1)) here ∙ rw (eq-eqb (operation_at ws c) evaluate_operation (sym operation ∙ e)) refl
 
-    pub to_conditions : (head_operation v ≡ evaluate_operation → ⊥) → head_operation v ≡ test_operation → go_on c c.passed false (head_operand v) (c.at + 1) ≡ skipped ws c
-    to_conditions n e = ap (λ n. go_on c c.passed false (head_operand n) (c.at + 1)) here ∙ rw (ne_eqb (operation_at ws c) evaluate_operation (λ f. n (operation ∙ f)), eq-eqb (operation_at ws c) test_operation (sym operation ∙ e)) refl
+    pub to_conditions : (head_operation v ≡ evaluate_operation → ⊥) → head_operation v ≡ test_operation → go_on c c.passed Conditions (head_operand v) (c.at + 1) ≡ skipped ws c
+    to_conditions n e = ap (λ n. go_on c c.passed Conditions (head_operand n) (c.at + 1)) here ∙ rw (ne_eqb (operation_at ws c) evaluate_operation (λ f. n (operation ∙ f)), eq-eqb (operation_at ws c) test_operation (sym operation ∙ e)) refl
 
-    pub past_symbol : (head_operation v ≡ evaluate_operation → ⊥) → (head_operation v ≡ test_operation → ⊥) → go_on c (c.passed + 1) false 0 (c.at + 1) ≡ skipped ws c
+    pub past_symbol : (head_operation v ≡ evaluate_operation → ⊥) → (head_operation v ≡ test_operation → ⊥) → go_on c (c.passed + 1) Conditions 0 (c.at + 1) ≡ skipped ws c
     past_symbol n m = rw (ne_eqb (operation_at ws c) evaluate_operation (λ f. n (operation ∙ f)), ne_eqb (operation_at ws c) test_operation (λ f. m (operation ∙ f))) refl
 
   pub skipped_on : ((skipped ws c).production ≡ c.production) × ((skipped ws c).at ≡ c.at + 1)

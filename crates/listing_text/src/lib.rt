@@ -1,13 +1,14 @@
 // The listing, line by line, from the program's words. 01: "each rule and condition has its own line, in table order; R always stands"
 #![tactic(auto)]
 
-ghost use Rattle.std.specs.Prelude.{◌+◌, ◌<◌, ◌≤◌, ◌≡◌, true, false, length};
+ghost use Rattle.std.specs.Prelude.{◌+◌, ◌<◌, ◌≤◌, ◌≡◌, true, false, length, IfSome};
 ghost use Rattle.meaning.specs.Limits.{area_length, symbols_limit};
 ghost use Rattle.listing_lines.specs.Line.{add_line, remove_line};
 ghost use Rattle.listing_text.specs.Cursors.{record_word, start_of, go_on, inside_of, skips_of, skipped, position_of, rule_here, behind_rule, condition_here, behind_condition, behind_add, lines_left};
 ghost use Rattle.listing_text.specs.LineOut.{Emits, FirstLineOrOver, BeforeAll};
 
 use limits::AREA;
+use program_parts::Items;
 use value::{index_of, word_or_zero};
 
 // 01: "right-side length (0 to 12)".
@@ -20,19 +21,18 @@ pub struct Cursor {
     pub production: u32,
     // how many of its symbols are passed
     pub passed: u32,
-    // whether the items at hand are rules, and not conditions
-    pub rules: bool,
+    // what the items at hand are; where none are left, it says conditions
+    pub items: Items,
     // how many items are left
     pub left: u32,
     // the address of the next word
     pub at: usize,
 }
 
+// A line that was written.
 #[derive(Clone, Copy)]
 pub struct Line {
-    // whether there was no line left
-    pub over: bool,
-    // how many bytes the line has
+    // how many bytes it has
     pub length: usize,
     // where the listing stands behind it
     pub next: Cursor,
@@ -62,29 +62,24 @@ fn start(program: &[u32], production: u32) -> Cursor
     let symbols = index_of(record_word(program, production, program_parts::SYMBOLS));
     let tests = record_word(program, production, program_parts::TESTS);
     Cursor {
-        production: production,
+        production,
         passed: 0,
-        rules: false,
+        items: Items::Conditions,
         left: tests,
         at: body + symbols,
     }
 }
 
-// What the items at hand are; where none are left, it says conditions.
-const RULES: bool = true;
-
-const CONDITIONS: bool = false;
-
 // On in the same production.
-fn go_on(c: Cursor, passed: u32, rules: bool, left: u32, at: usize) -> Cursor
-    ensures { result ≡ go_on c passed rules left at }
+fn go_on(c: Cursor, passed: u32, items: Items, left: u32, at: usize) -> Cursor
+    ensures { result ≡ go_on c passed items left at }
 {
     Cursor {
-        production: c.production,
-        passed: passed,
-        rules: rules,
-        left: left,
-        at: at,
+        passed,
+        items,
+        left,
+        at,
+        ..c
     }
 }
 
@@ -125,14 +120,14 @@ fn pass(program: &[u32], c: Cursor) -> Cursor
 {
     let head = index_of(word_or_zero(program, c.at));
     let operation = program_parts::operation(head);
-    let items = program_parts::operand(head) as u32;
+    let count = program_parts::operand(head) as u32;
     if operation == operations::EVALUATE {
-        return go_on(c, c.passed, RULES, items, c.at + 1);
+        return go_on(c, c.passed, Items::Rules, count, c.at + 1);
     }
     if operation == operations::TEST {
-        return go_on(c, c.passed, CONDITIONS, items, c.at + 1);
+        return go_on(c, c.passed, Items::Conditions, count, c.at + 1);
     }
-    go_on(c, c.passed + 1, CONDITIONS, 0, c.at + 1)
+    go_on(c, c.passed + 1, Items::Conditions, 0, c.at + 1)
 }
 
 // To the next instruction or item that has a line.
@@ -140,6 +135,7 @@ fn settle(program: &[u32], cursor: Cursor) -> Cursor
     ensures { (skips_of program.now result ≡ false) × (lines_left program.now result ≡ lines_left program.now cursor) }
 {
     let mut c = cursor;
+    // Kept: a test of the cursor, and no count, ends it.
     while is_silent(program, c) {
         c = pass(program, c);
     }
@@ -170,15 +166,11 @@ fn rule(program: &[u32], c: Cursor, out: &mut [u8]) -> Line
     let next = go_on(
         c,
         c.passed,
-        RULES,
+        Items::Rules,
         c.left - 1,
         c.at + program_parts::RULE_WORDS,
     );
-    Line {
-        over: false,
-        length: length,
-        next: next,
-    }
+    Line { length, next }
 }
 
 fn condition(program: &[u32], c: Cursor, out: &mut [u8]) -> Line
@@ -192,15 +184,11 @@ fn condition(program: &[u32], c: Cursor, out: &mut [u8]) -> Line
     let next = go_on(
         c,
         c.passed,
-        CONDITIONS,
+        Items::Conditions,
         c.left - 1,
         c.at + program_parts::CONDITION_WORDS,
     );
-    Line {
-        over: false,
-        length: length,
-        next: next,
-    }
+    Line { length, next }
 }
 
 fn add(c: Cursor, registers: u32, out: &mut [u8]) -> Line
@@ -208,12 +196,8 @@ fn add(c: Cursor, registers: u32, out: &mut [u8]) -> Line
     ensures { Emits out.old out.new result (add_line c.production (c.passed + 1) registers) (behind_add c) }
 {
     let length = listing_lines::add_line(out, c.production, c.passed + 1, registers);
-    let next = go_on(c, c.passed, CONDITIONS, 0, c.at + 1);
-    Line {
-        over: false,
-        length: length,
-        next: next,
-    }
+    let next = go_on(c, c.passed, Items::Conditions, 0, c.at + 1);
+    Line { length, next }
 }
 
 // The last line of a production.
@@ -223,11 +207,7 @@ fn remove(program: &[u32], production: u32, registers: u32, out: &mut [u8]) -> L
 {
     let length = listing_lines::remove_line(out, production, registers);
     let next = start(program, production + 1);
-    Line {
-        over: false,
-        length: length,
-        next: next,
-    }
+    Line { length, next }
 }
 
 // ---- the listing
@@ -239,29 +219,25 @@ pub fn first(program: &[u32]) -> Cursor
     start(program, 0)
 }
 
-// The first of the lines still to come into the first bytes of `out`, and the cursor of the rest; or that there is none.
-pub fn next_line(program: &[u32], cursor: Cursor, out: &mut [u8]) -> Line
+// The first of the lines still to come into the first bytes of `out`, and the cursor of the rest; or none.
+pub fn next_line(program: &[u32], cursor: Cursor, out: &mut [u8]) -> Option<Line>
     requires { 64 ≤ length out.old }
-    ensures { (result.length ≤ 64) × FirstLineOrOver program.now (lines_left program.now cursor) out.old out.new result }
+    ensures { IfSome result (λ line. line.length ≤ 64) × FirstLineOrOver program.now (lines_left program.now cursor) out.old out.new result }
 {
     let c = settle(program, cursor);
     if !is_inside(program, c) {
-        return Line {
-            over: true,
-            length: 0,
-            next: c,
-        };
+        return None;
     }
     if 0 < c.left {
-        if c.rules {
-            return rule(program, c, out);
+        match c.items {
+            Items::Rules => return Some(rule(program, c, out)),
+            Items::Conditions => return Some(condition(program, c, out)),
         }
-        return condition(program, c, out);
     }
     let head = index_of(word_or_zero(program, c.at));
     let registers = program_parts::operand(head) as u32;
     if program_parts::operation(head) == operations::ADD {
-        return add(c, registers, out);
+        return Some(add(c, registers, out));
     }
-    remove(program, c.production, registers, out)
+    Some(remove(program, c.production, registers, out))
 }

@@ -6,7 +6,8 @@ ghost use Rattle.std.specs.Int.Bits.{bit_or};
 ghost use Rattle.meaning.specs.Sets.{◌∪◌, empty_set, has, singleton, end_number};
 ghost use Rattle.token_set.specs.SetBits.{set_of};
 
-#[derive(Clone, Copy)]
+// Kept: a type beside `TokenSet`, so that no set of tokens is taken for one of nonterminals; one type with a marker has no `TokenSet(word)`.
+#[derive(Clone, Copy, Debug, PartialEq, Eq)]
 pub struct NonterminalSet(pub u64);
 
 impl NonterminalSet {
@@ -41,12 +42,6 @@ impl NonterminalSet {
         ensures { result ≡ eqb self.0 0 }
     {
         self.0 == 0
-    }
-
-    pub fn same(self, other: NonterminalSet) -> bool
-        ensures { result ≡ eqb self.0 other.0 }
-    {
-        self.0 == other.0
     }
 }
 

@@ -1,6 +1,6 @@
 -- The image of a table's productions: 16 bytes for each. Byte 0 is the left nonterminal, byte 1 the length of the right side,
 -- from byte 2 on its symbols as the table has them: a terminal is its number, a nonterminal 128 plus its number.
-use Rattle.std.specs.Prelude.{ℕ, suc, ◌+◌, ◌-◌, ◌*◌, ◌/◌, ◌≤◌, ◌<◌, ◌≡◌, List, [], ◌∷◌, map, T, ltb, length, take, drop, get_or}
+use Rattle.std.specs.Prelude.{ℕ, suc, ◌+◌, ◌-◌, ◌*◌, ◌/◌, ◌≤◌, ◌<◌, ◌≡◌, List, [], ◌∷◌, map, T, length, take, drop, get_or}
 use Rattle.std.proofs.Common.{add-one, arith, sym, ap₂, ◌∙◌, ltb→lt, length-take, length-drop, drop_of_length-le, drop-cons, get_or-take, ext_get_or}
 use Rattle.std.proofs.Math.Decide.{dec_lt}
 use Rattle.std.proofs.Math.Path.{ap}

@@ -10,7 +10,7 @@ ghost use Rattle.outline.specs.Images.{HasRow, row_count, row_start, row_at, lef
 use token_set::TokenSet;
 
 // The numbers of a table that is well formed.
-#[derive(Clone, Copy)]
+#[derive(Clone, Copy, Debug, PartialEq, Eq)]
 pub struct Sizes {
     pub terminals: usize,
     pub nonterminals: usize,
@@ -101,24 +101,19 @@ pub fn count_of(counts: &[u8], symbol: usize) -> u8
     ensures { result ≡ count_at_value counts.now symbol }
 {
     if symbol < 128 {
-        return 0;
+        0
+    } else {
+        counts.get(symbol - 128).copied().unwrap_or(0)
     }
-    let n = symbol - 128;
-    if counts.len() <= n {
-        return 0;
-    }
-    counts[n]
 }
 
 // Its synthesized count: 1 for a terminal that carries a value, 0 for another.
 pub fn synthesized_of(carrying: TokenSet, counts: &[u8], symbol: usize) -> u8
     ensures { result ≡ synthesized_at carrying.0 counts.now symbol }
 {
-    if 128 <= symbol {
-        return count_of(counts, symbol);
+    if symbol < 128 {
+        u8::from(carrying.has(symbol as u8))
+    } else {
+        count_of(counts, symbol)
     }
-    if carrying.has(symbol as u8) {
-        return 1;
-    }
-    0
 }

@@ -16,16 +16,16 @@ use Rattle.outline.specs.Outline.{state_in, grammar_in}
 use Rattle.checker.specs.Judging.{Judges}
 use Rattle.program.specs.Building.{ProgramWrote}
 use Rattle.checker.proofs.Cases.{accepted_case}
-use Rattle.checker.specs.declared.grammar.Judged.{Judged}
-use Rattle.checker.specs.declared.grammar.Judged.TheVariants.{Usable}
+use Rattle.std.specs.Prelude.{Result, Ok}
+use Rattle.refusals.specs.declared.TableRefusal.{TableRefusal}
 use Rattle.prepare.specs.declared.Made.{Made}
 use Rattle.prepare.specs.declared.Made.TheVariants.{Short, Refused, Written}
 use Rattle.prepare.specs.Making.{made_is, ProgramStands, Case, MadeAs}
 
 -- ---- an accepted table
 
-module _ (t inherited synthesized rows offsets sets : List ℕ) (q : Judged) (j : Judges t inherited synthesized rows offsets sets q) (area : List ℕ) (l : area_length ≤ length area) where
-  pub stands : (area' : List ℕ) (size : ℕ) (sizes : Sizes) → q ≡ Usable sizes → ProgramWrote (grammar_in t) area area' size → ProgramStands t area area' size
+module _ (t inherited synthesized rows offsets sets : List ℕ) (q : Result Sizes TableRefusal) (j : Judges t inherited synthesized rows offsets sets q) (area : List ℕ) (l : area_length ≤ length area) where
+  pub stands : (area' : List ℕ) (size : ℕ) (sizes : Sizes) → q ≡ Ok sizes → ProgramWrote (grammar_in t) area area' size → ProgramStands t area area' size
   unfolding grammar_in
   stands area' size sizes e z =
       let x = accepted_case t inherited synthesized rows offsets sets q j sizes e in

@@ -6,7 +6,6 @@ ghost use Rattle.meaning.specs.PublicCalls.{made, made_of};
 ghost use Rattle.prepare.specs.Making.{made_is, MadeAs};
 ghost use Rattle.prepare.specs.Beginning.{BegunAs};
 
-use checker::grammar::Judged;
 use limits::{AREA, NONTERMINALS, PRODUCTIONS, ROWS};
 use records::Answer;
 
@@ -39,8 +38,11 @@ pub fn program_of(table: &[u8], program: &mut [u32]) -> Made
         &mut offsets,
         &mut sets,
     ) {
-        Judged::Unusable { number, offset } => Made::Refused { number, offset },
-        Judged::Usable(sizes) => {
+        Err(refusal) => Made::Refused {
+            number: refusal.fault.number(),
+            offset: refusal.offset,
+        },
+        Ok(sizes) => {
             let length = program::build(
                 table,
                 &rows,

@@ -3,7 +3,6 @@ use Rattle.std.specs.Prelude.{ℕ, min, ◌≡◌, refl, List, ◌++◌, [], ◌
 use Rattle.std.proofs.Common.{sym, ap, ◌∙◌}
 use Rattle.meaning.specs.Limits.{registers_limit, places_limit}
 use Rattle.meaning.specs.Grammar.{Grammar, leaves}
-use Rattle.meaning.specs.Sets.{TokenSet}
 use Rattle.meaning.specs.Calls.{as_brought, Record, Stacks, refused, Called, lent_of, config_of, tokens_from, after_feed, feed_of}
 use Rattle.meaning.specs.PublicCalls.{stacks_of}
 use Rattle.meaning.specs.Machine.{Settled, stopped, failed, feed_all}

@@ -22,16 +22,15 @@ pub fn preview_cells(
     ensures { (g : Grammar) → HasProgram g program.now → handed_is result scratch_registers.new scratch_places.new
         ≡ preview_of g (state_is brought) (stacks_of registers.now places.now) (stacks_of scratch_registers.old scratch_places.old) kind value }
 {
-    let number = crate::judging::judge(
+    if let Err(refusal) = crate::judging::judge(
         registers,
         places,
         scratch_registers,
         scratch_places,
         program,
         brought,
-    );
-    if number != 0 {
-        return records::as_brought(brought, Answer::Refused { number, tokens: 0 });
+    ) {
+        return records::as_brought(brought, Answer::turned_back(refusal));
     }
     let n = run_cells::smaller(registers.len(), limits::REGISTERS);
     let k = run_cells::smaller(places.len(), limits::PLACES);

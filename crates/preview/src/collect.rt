@@ -14,9 +14,10 @@ fn grown(set: TokenSet, token: u8, passed: bool) -> TokenSet
     ensures { set_of result.0 ≡ grown_by (set_of set.0) token passed }
 {
     if passed {
-        return set.union(TokenSet::of_token(token));
+        set.union(TokenSet::of_token(token))
+    } else {
+        set
     }
-    set
 }
 
 // Each token below T in turn. The end is none.
@@ -35,6 +36,7 @@ pub fn collect(
     let terminals = run_moves::word_at(program, program_parts::TERMINALS);
     let mut set = TokenSet::EMPTY;
     let mut token = 0u8;
+    // Kept: a token is a byte and their number a word; a range over either needs a cast that this test spares.
     while (token as usize) < terminals {
         let passed = passes(
             registers,

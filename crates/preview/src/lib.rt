@@ -49,7 +49,6 @@ pub fn preview(
     ensures { effect_is result scratch_registers.new scratch_places.new program.new
         ≡ previews program_of table.now program.old (record_is «record») (stacks_of registers.now places.now) (stacks_of scratch_registers.old scratch_places.old) kind value }
 {
-    let state = record.state;
     match prepare::begin(table, program) {
         Begun::Turned(answer) => Called { record, answer },
         Begun::Ready => engine::hand_back(crate::cells::preview_cells(
@@ -58,7 +57,7 @@ pub fn preview(
             scratch_registers,
             scratch_places,
             program,
-            state,
+            record.state,
             kind,
             value,
         )),
@@ -107,16 +106,15 @@ fn may_cells(
     ensures { (g : Grammar) → HasProgram g program.now → may_effect_is result scratch_registers.new scratch_places.new program.now
         ≡ may_of g (state_is brought) (stacks_of registers.now places.now) (stacks_of scratch_registers.old scratch_places.old) value program.now }
 {
-    let number = crate::judging::judge(
+    if let Err(refusal) = crate::judging::judge(
         registers,
         places,
         scratch_registers,
         scratch_places,
         program,
         brought,
-    );
-    if number != 0 {
-        return May::Turned(Answer::Refused { number, tokens: 0 });
+    ) {
+        return May::Turned(Answer::turned_back(refusal));
     }
     let n = run_cells::smaller(registers.len(), limits::REGISTERS);
     let k = run_cells::smaller(places.len(), limits::PLACES);
@@ -145,7 +143,6 @@ pub fn may_follow(
     ensures { may_effect_is result scratch_registers.new scratch_places.new program.new
         ≡ mays program_of table.now program.old (record_is «record») (stacks_of registers.now places.now) (stacks_of scratch_registers.old scratch_places.old) value }
 {
-    let state = record.state;
     match prepare::begin(table, program) {
         Begun::Turned(answer) => May::Turned(answer),
         Begun::Ready => may_cells(
@@ -154,7 +151,7 @@ pub fn may_follow(
             scratch_registers,
             scratch_places,
             program,
-            state,
+            record.state,
             value,
         ),
     }

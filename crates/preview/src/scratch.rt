@@ -3,41 +3,26 @@ ghost use Rattle.std.specs.Prelude.{◌≤◌, ◌≡◌, ◌++◌, length, take
 ghost use Rattle.run_machine.specs.Advancing.{Running};
 ghost use Rattle.preview.specs.scratch.Scratch.{Cleared, TriedAs, reached_by};
 
-use run_machine::Ended;
+use run_machine::Failed;
 use run_moves::Run;
 
 // ---- what stands, copied
 
-fn copy_registers(from: &[i64], to: &mut [i64], height: usize)
+fn copy<T: Copy>(from: &[T], to: &mut [T], height: usize)
     requires { (height ≤ length from.now) × (height ≤ length to.old) }
     ensures { to.new ≡ take height from.now ++ drop height to.old }
 {
-    let mut i = 0;
-    while i < height {
-        to[i] = from[i];
-        i += 1;
-    }
-}
-
-fn copy_places(from: &[u32], to: &mut [u32], height: usize)
-    requires { (height ≤ length from.now) × (height ≤ length to.old) }
-    ensures { to.new ≡ take height from.now ++ drop height to.old }
-{
-    let mut i = 0;
-    while i < height {
-        to[i] = from[i];
-        i += 1;
-    }
+    to[..height].copy_from_slice(&from[..height]);
 }
 
 // ---- a token tried
 
-fn reached(ended: Ended) -> Run
+fn reached(ended: Result<Run, Failed>) -> Run
     ensures { result ≡ reached_by ended }
 {
     match ended {
-        Ended::Stopped(run) => run,
-        Ended::Failed(run, number) => run,
+        Ok(run) => run,
+        Err(failed) => failed.run,
     }
 }
 
@@ -51,12 +36,12 @@ pub fn attempt(
     run: Run,
     kind: u8,
     value: i32,
-) -> Ended
+) -> Result<Run, Failed>
     requires { Running program.now registers.now places.now run × Cleared registers.now places.now scratch_registers.old scratch_places.old }
     ensures { TriedAs program.now kind value registers.now places.now run result × Cleared registers.now places.now scratch_registers.new scratch_places.new }
 {
-    copy_registers(registers, scratch_registers, run.registers);
-    copy_places(places, scratch_places, run.places);
+    copy(registers, scratch_registers, run.registers);
+    copy(places, scratch_places, run.places);
     let kinds = [kind; 1];
     let values = [value; 1];
     let ended = run_machine::feed(

@@ -6,7 +6,6 @@ ghost use Rattle.preview.specs.token.Passing.{PassesAs};
 
 use crate::expected::expected;
 use crate::scratch::attempt;
-use run_machine::Ended;
 use run_moves::Run;
 
 // A token that is not expected is left out without a try.
@@ -36,7 +35,7 @@ pub fn passes(
         kind,
         value,
     ) {
-        Ended::Stopped(last) => true,
-        Ended::Failed(last, number) => false,
+        Ok(_) => true,
+        Err(_) => false,
     }
 }

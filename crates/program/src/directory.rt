@@ -15,8 +15,7 @@ pub fn set_at(sets: &[u64], at: usize) -> TokenSet
     if sets.len() <= at {
         return TokenSet::EMPTY;
     }
-    let word = sets[at];
-    TokenSet(word)
+    TokenSet(sets[at])
 }
 
 // The number is written at each bit of a set, in a row of 64 words.
@@ -26,6 +25,7 @@ fn mark(set: TokenSet, number: u32, area: &mut [u32], from: usize)
 {
     let mut rest = set.0;
     let mut u: usize = 0;
+    // Kept: from one bit that is set to the next by the processor's count of trailing zeros, so that bits that are not set cost no turn
     while rest != 0 {
         let zeros = u64::trailing_zeros(rest) as usize;
         area[from + u + zeros] = number;
@@ -58,17 +58,15 @@ pub fn write_directory(
 {
     let end = DIRECTORY + DIRECTORY_WORDS * nonterminals;
     program_zeros::clear(area, DIRECTORY, end);
-    let mut p = count;
-    while 0 < p {
-        let left = outline::left_of(rows, p - 1) as usize;
-        let said = entry(area, end + RECORD_WORDS * (p - 1), p as u32);
+    for p in (0..count).rev() {
+        let left = outline::left_of(rows, p) as usize;
+        let said = entry(area, end + RECORD_WORDS * p, p as u32 + 1);
         mark(
-            set_at(sets, p - 1),
+            set_at(sets, p),
             said,
             area,
             DIRECTORY + DIRECTORY_WORDS * left,
         );
-        p -= 1;
     }
     end
 }

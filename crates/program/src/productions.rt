@@ -27,8 +27,7 @@ fn write_each(
     let mut at = program_parts::DIRECTORY + program_parts::DIRECTORY_WORDS * sizes.nonterminals;
     let mut body = at + 20 * count;
     let nexts = crate::record::find_nexts(rows, count);
-    let mut p: usize = 0;
-    while p < count {
+    for p in 0..count {
         body = crate::record::write_production(
             table,
             rows,
@@ -44,8 +43,7 @@ fn write_each(
             at,
             body,
         );
-        at = at + program_parts::RECORD_WORDS;
-        p += 1;
+        at += program_parts::RECORD_WORDS;
     }
     body
 }

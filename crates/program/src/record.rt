@@ -21,9 +21,7 @@ pub fn find_nexts(rows: &[u8], count: usize) -> [u8; PRODUCTIONS]
 {
     let mut nexts = [0u8; PRODUCTIONS];
     let mut firsts = [0u8; NONTERMINALS];
-    let mut p = count;
-    while 0 < p {
-        p -= 1;
+    for p in (0..count).rev() {
         let left = outline::left_of(rows, p) as usize;
         nexts[p] = firsts[left];
         firsts[left] = (p + 1) as u8;
@@ -51,8 +49,9 @@ fn write_record(
     let low = (set.0 % 4294967296) as u32;
     let high = (set.0 / 4294967296) as u32;
     let from = body as u32;
-    let half = crate::segment::put_four(area, at, left, next, low, high);
-    crate::segment::put_four(area, half, from, entries, from + size + 3 * entries, size)
+    let half = crate::segment::put(area, at, &[left, next, low, high]);
+    let scheme = from + size + 3 * entries;
+    crate::segment::put(area, half, &[from, entries, scheme, size])
 }
 
 // The address of what the places of production p wait at, behind the segment's code, the directory and the records.

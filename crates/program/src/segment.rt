@@ -1,5 +1,5 @@
 // The words of the program on the whole segment.
-ghost use Rattle.std.specs.Prelude.{ℕ, ◌+◌, ◌≤◌, List, [], ◌∷◌, length};
+ghost use Rattle.std.specs.Prelude.{ℕ, ◌+◌, ◌≤◌, List, length};
 ghost use Rattle.meaning.specs.Limits.{area_length};
 ghost use Rattle.meaning.specs.Program.{segment_words};
 ghost use Rattle.program_block_words.specs.Patch.{Wrote};
@@ -7,16 +7,14 @@ ghost use Rattle.outline.specs.Outline.{grammar_in, Outline};
 
 use outline::Sizes;
 
-// Four words; answers the address behind them.
-pub fn put_four(area: &mut [u32], at: usize, a: u32, b: u32, c: u32, d: u32) -> usize
-    requires { at + 4 ≤ length area.old }
-    ensures { Wrote area.old area.new at result (a ∷ b ∷ c ∷ d ∷ []) }
+// Words one after the other; answers the address behind them.
+pub fn put(area: &mut [u32], at: usize, words: &[u32]) -> usize
+    requires { at + length words.now ≤ length area.old }
+    ensures { Wrote area.old area.new at result words.now }
 {
-    area[at] = a;
-    area[at + 1] = b;
-    area[at + 2] = c;
-    area[at + 3] = d;
-    at + 4
+    let end = at + words.len();
+    area[at..end].copy_from_slice(words);
+    end
 }
 
 const PREDICT: u32 = operations::PREDICT as u32;
@@ -38,8 +36,8 @@ pub fn write_segment(synthesized: &[u8], sizes: Sizes, area: &mut [u32]) -> usiz
     let low = (sizes.carrying.0 % 4294967296) as u32;
     let high = (sizes.carrying.0 / 4294967296) as u32;
     let head = program_parts::head(PREDICT, start);
-    let next = put_four(area, 0, head, NOTHING, records, terminals);
-    let last = put_four(area, next, registers, result, productions, low);
+    let next = put(area, 0, &[head, NOTHING, records, terminals]);
+    let last = put(area, next, &[registers, result, productions, low]);
     area[last] = high;
     last + 1
 }

@@ -1,7 +1,10 @@
 // The words of one rule or condition, from the bytes of its field.
 ghost use Rattle.std.specs.Prelude.{◌+◌, ◌≤◌, ◌≡◌, length};
+ghost use Rattle.program_parts.specs.Items.{are_rules};
 ghost use Rattle.program_block_words.specs.Patch.{Wrote};
 ghost use Rattle.program_block_words.specs.Items.{rule_item, compared_with, condition_item, item_of, item_size, Whole, WholeRule, WholeCondition};
+
+use program_parts::Items;
 
 // A rule's two words; answers the address behind them.
 fn write_rule(field: &[u8], top: u32, below: &[u32], area: &mut [u32], at: usize) -> usize
@@ -52,17 +55,17 @@ fn write_condition(field: &[u8], top: u32, below: &[u32], area: &mut [u32], at: 
 // The field's item; answers the address behind it.
 pub fn write_item(
     field: &[u8],
-    rules: bool,
+    items: Items,
     top: u32,
     below: &[u32],
     area: &mut [u32],
     at: usize,
 ) -> usize
-    requires { (top ≤ 1024) × Whole rules field.now × (at + item_size rules ≤ length area.old) }
-    ensures { Wrote area.old area.new at result (item_of rules top below.now field.now) }
+    requires { (top ≤ 1024) × Whole (are_rules items) field.now × (at + item_size (are_rules items) ≤ length area.old) }
+    ensures { Wrote area.old area.new at result (item_of (are_rules items) top below.now field.now) }
 {
-    if rules {
-        return write_rule(field, top, below, area, at);
+    match items {
+        Items::Rules => write_rule(field, top, below, area, at),
+        Items::Conditions => write_condition(field, top, below, area, at),
     }
-    write_condition(field, top, below, area, at)
 }

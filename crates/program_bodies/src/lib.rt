@@ -9,8 +9,9 @@ ghost use Rattle.program_body_words.specs.OfProduction.{right_of, Prepared, EndF
 
 use crate::symbols::write_symbols;
 use outline::count_of;
-use program_blocks::{RULES, write_block, write_entry_tests};
+use program_blocks::{write_block, write_entry_tests};
 use program_body_levels::find_levels;
+use program_parts::Items;
 use token_set::TokenSet;
 use value::word_or_zero;
 
@@ -48,7 +49,8 @@ fn write_end(
 {
     let sum = whole_sum(row, inherited, levels);
     let own = value::byte_at(inherited, outline::row_left(row) as usize);
-    let remove = write_block(fields, marks, links, RULES, 0, sum, levels, area, address);
+    let rules = Items::Rules;
+    let remove = write_block(fields, marks, links, rules, 0, sum, levels, area, address);
     area[remove] = program_parts::head(REMOVE, own + sum);
     remove + 1
 }

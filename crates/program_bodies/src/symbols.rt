@@ -5,7 +5,8 @@ ghost use Rattle.program_body_words.specs.SchemeWords.{add_words, add_size};
 ghost use Rattle.program_body_words.specs.OfProduction.{expect_head, SymbolFits, SymbolWrote, SymbolsFit, SymbolsWrote};
 
 use outline::count_of;
-use program_blocks::{CONDITIONS, RULES, write_block};
+use program_blocks::write_block;
+use program_parts::Items;
 use value::word_or_zero;
 
 const ADD: u32 = operations::ADD as u32;
@@ -20,9 +21,10 @@ fn expect_head(symbol: u32) -> u32
     ensures { result ≡ expect_head symbol }
 {
     if symbol < 128 {
-        return program_parts::head(READ, symbol);
+        program_parts::head(READ, symbol)
+    } else {
+        program_parts::head(PREDICT, symbol - 128)
     }
-    program_parts::head(PREDICT, symbol - 128)
 }
 
 fn write_add(n: u32, area: &mut [u32], address: usize) -> usize
@@ -59,7 +61,8 @@ fn write_symbol(
     let all = own + count_of(synthesized, symbol as usize) as u32;
     let top = word_or_zero(levels, k + 1);
     let from = write_add(all, area, address);
-    let expect = write_block(fields, marks, links, RULES, k + 1, top, levels, area, from);
+    let rules = Items::Rules;
+    let expect = write_block(fields, marks, links, rules, k + 1, top, levels, area, from);
     area[expects + k] = expect as u32;
     area[expect] = expect_head(symbol);
     let rest = top - own;
@@ -68,7 +71,7 @@ fn write_symbol(
         fields,
         marks,
         links,
-        CONDITIONS,
+        Items::Conditions,
         k + 1,
         rest,
         levels,
@@ -94,9 +97,8 @@ pub fn write_symbols(
     ensures { (x : SymbolsFit row.now fields.now inherited.now synthesized.now marks.now links.now levels.now area.old address expects) → SymbolsWrote x area.new result }
 {
     let size = outline::row_size(row) as usize;
-    let mut k: usize = 0;
     let mut to = address;
-    while k < size {
+    for k in 0..size {
         to = write_symbol(
             row,
             fields,
@@ -110,7 +112,6 @@ pub fn write_symbols(
             to,
             expects,
         );
-        k += 1;
     }
     to
 }

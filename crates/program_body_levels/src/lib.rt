@@ -1,7 +1,7 @@
 // The levels of a production's positions, and what its places wait at.
 #![tactic(auto)]
 
-ghost use Rattle.std.specs.Prelude.{ℕ, ◌+◌, ◌≤◌, ◌<◌, ◌≡◌, List, length};
+ghost use Rattle.std.specs.Prelude.{ℕ, ◌+◌, ◌≤◌, ◌≡◌, List, length};
 ghost use Rattle.meaning.specs.Limits.{positions_limit, symbols_limit};
 ghost use Rattle.program_body_words.specs.OfProduction.{OfProduction, Carried};
 ghost use Rattle.program_body_words.specs.Waits.{LeveledAndWaiting};
@@ -27,15 +27,13 @@ pub fn find_levels(
     let left = outline::row_left(row);
     let size = outline::row_size(row) as usize;
     let mut sum = 0u32;
-    let mut k: usize = 0;
-    while k < size {
+    for k in 0..size {
         let symbol = outline::row_symbol(row, k);
         let marked = count_of(synthesized, symbol as usize) as u32;
         let own = count_of(inherited, symbol as usize) as u32;
         area[wait + k] = program_parts::wait_word(left, sum, marked, own, symbol);
-        sum = sum + synthesized_of(carrying, synthesized, symbol as usize) as u32;
+        sum += synthesized_of(carrying, synthesized, symbol as usize) as u32;
         levels[k + 1] = sum + own;
-        k += 1;
     }
     clear(area, wait + size, wait + program_parts::WAIT_WORDS);
     levels

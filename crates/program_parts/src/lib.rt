@@ -4,6 +4,7 @@
 ghost use Rattle.std.specs.Prelude.{◌+◌, ◌*◌, ◌≤◌, ◌<◌, ◌≡◌, length};
 ghost use Rattle.meaning.specs.Grammar.{place_at, place_production, place_passed};
 ghost use Rattle.meaning.specs.Program.{packed, head_of};
+ghost use Rattle.program_parts.specs.Items.{words_of};
 ghost use Rattle.theory_program.specs.Parts.{head_operation, head_operand, directory_number, directory_scheme, rule_target, rule_function, rule_first, rule_second, condition_kind, condition_first, condition_second, wait_left, wait_passed, wait_marked, wait_inherited, wait_symbol, in_set};
 
 // ---- the words on the whole segment
@@ -49,6 +50,25 @@ pub const RULE_WORDS: usize = 2;
 // A condition.
 pub const CONDITION_WORDS: usize = 3;
 
+// What an evaluate, or a test, is followed by.
+#[derive(Clone, Copy, Debug, PartialEq, Eq)]
+pub enum Items {
+    Rules,
+    Conditions,
+}
+
+impl Items {
+    // How many words each of them takes.
+    pub fn words(self) -> usize
+        ensures { result ≡ words_of self }
+    {
+        match self {
+            Items::Rules => RULE_WORDS,
+            Items::Conditions => CONDITION_WORDS,
+        }
+    }
+}
+
 // ---- the words of a record
 
 // The next production with the same left side, its number plus 1, or 0.
@@ -68,6 +88,8 @@ pub const SCHEME: usize = 6;
 
 // The number of symbols on the right side.
 pub const SYMBOLS: usize = 7;
+
+// Kept: words are put together and taken apart by numbers, since docs/PROGRAM.md fixes where each part of a word stands
 
 // ---- an instruction's head word
 

@@ -9,9 +9,5 @@ pub fn clear(area: &mut [u32], from: usize, to: usize)
     requires { (from ≤ to) × (to ≤ length area.old) }
     ensures { area.new ≡ patch area.old from (replicate (to - from) 0) }
 {
-    let mut at = from;
-    while at < to {
-        area[at] = 0;
-        at += 1;
-    }
+    area[from..to].fill(0);
 }

@@ -8,7 +8,7 @@ use limits::SEGMENT;
 use records::{Answer, Handed};
 
 // What a candidate answers, and how many cells of each stack may not be clear after it.
-#[derive(Clone, Copy)]
+#[derive(Clone, Copy, Debug, PartialEq, Eq)]
 pub struct Candidate {
     pub answer: Answer,
     pub registers: usize,
@@ -40,11 +40,9 @@ pub fn unopened(number: u32, a: usize, b: usize) -> Candidate
 pub fn left(handed: Handed) -> Candidate
     ensures { result ≡ left_from handed }
 {
-    let answer = handed.answer;
-    let state = handed.state;
     Candidate {
-        answer,
-        registers: state.registers as usize,
-        places: state.places as usize,
+        answer: handed.answer,
+        registers: handed.state.registers as usize,
+        places: handed.state.places as usize,
     }
 }

@@ -20,8 +20,7 @@ pub fn evaluate_all(
     let mut a = run_cells::smaller(registers.len(), limits::REGISTERS);
     let mut b = run_cells::smaller(places.len(), limits::PLACES);
     let mut at = 0;
-    let mut i = 0;
-    while i < lengths.len() {
+    for i in 0..lengths.len() {
         let end = at + run_moves::word_at(lengths, i);
         let done = crate::evaluate::evaluate(
             registers,
@@ -32,11 +31,9 @@ pub fn evaluate_all(
             &kinds[at..end],
             &values[at..end],
         );
-        let answer = done.answer;
-        rank_report::entries::put(list, i, answer);
+        rank_report::entries::put(list, i, done.answer);
         a = done.registers;
         b = done.places;
         at = end;
-        i += 1;
     }
 }

@@ -8,7 +8,6 @@ ghost use Rattle.rank.specs.evaluate.Ran.{Ran, CandidateAs, EvaluatedAs};
 
 use crate::afresh::Candidate;
 use records::Handed;
-use run_machine::Ended;
 use run_moves::Run;
 use run_states::{fed, finished};
 
@@ -31,11 +30,11 @@ fn run_through(
         at: 0,
     };
     match run_machine::feed(registers, places, program, run, kinds, values) {
-        Ended::Stopped(next) => {
+        Ok(next) => {
             let ended = run_machine::finish(registers, places, program, next);
             finished(registers, program, ended)
         }
-        Ended::Failed(last, number) => fed(Ended::Failed(last, number)),
+        Err(failed) => fed(Err(failed)),
     }
 }
 

@@ -11,7 +11,7 @@ pub mod entries;
 pub mod sort;
 pub mod totals;
 
-#[derive(Clone, Copy)]
+#[derive(Clone, Copy, Debug, PartialEq, Eq)]
 pub enum Ranked {
     // How many were valued, the total of their values, the number of entries written.
     Done {

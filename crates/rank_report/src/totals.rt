@@ -4,25 +4,22 @@ ghost use Rattle.meaning.specs.Limits.{candidates_limit};
 ghost use Rattle.meaning_ranking.specs.Ranking.{worth, valued, total_of, valued_of};
 ghost use Rattle.theory_ranking.specs.Entries.{Ranged, entries_of, entry_at};
 
+use rank_order::Entry;
+
 // Whether the entry at place i has a value.
 fn valued_at(list: &[i64], i: usize) -> bool
     requires { 3 * i + 3 ≤ length list.now }
     ensures { result ≡ valued (entry_at list.now i) }
 {
-    let at = 3 * i;
-    let refusal = list[at + 2];
-    rank_order::same(refusal, 0)
+    Entry::at(list, i).is_valued()
 }
 
 fn worth_at(list: &[i64], i: usize) -> i64
     requires { 3 * i + 3 ≤ length list.now }
     ensures { result ≡ worth (entry_at list.now i) }
 {
-    if valued_at(list, i) {
-        let at = 3 * i;
-        return list[at + 1];
-    }
-    0
+    let entry = Entry::at(list, i);
+    if entry.is_valued() { entry.value } else { 0 }
 }
 
 // The exact total of the values.
@@ -30,12 +27,9 @@ pub fn total(list: &[i64], count: usize) -> i64
     requires { (count ≤ candidates_limit) × (3 * count ≤ length list.now) × Ranged (entries_of count list.now) }
     ensures { result ≡ total_of (entries_of count list.now) }
 {
-    let mut sum: i64 = 0;
-    let mut i = 0;
-    while i < count {
-        let v = worth_at(list, i);
-        sum += v;
-        i += 1;
+    let mut sum = 0;
+    for i in 0..count {
+        sum += worth_at(list, i);
     }
     sum
 }
@@ -47,6 +41,7 @@ pub fn valued_count(list: &[i64], count: usize) -> usize
 {
     let mut found = 0;
     let mut i = 0;
+    // Kept: tried as `(0..count).filter(..).count()`, whose result the proof didn't tie to the entries.
     while i < count {
         if valued_at(list, i) {
             found += 1;

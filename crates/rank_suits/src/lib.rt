@@ -1,44 +1,24 @@
 // 37 of a ranking, 02 (b): whether the lengths of the candidates, their tokens and the list suit each other.
 #![tactic(auto)]
 
-ghost use Rattle.std.specs.Prelude.{◌≤◌, ◌<◌, ◌≡◌, length, get_or};
+ghost use Rattle.std.specs.Prelude.{◌≤◌, ◌≡◌, length};
 ghost use Rattle.meaning.specs.Limits.{candidates_limit};
 ghost use Rattle.meaning.specs.Base.{total};
 ghost use Rattle.meaning_ranking.specs.RankCall.{in_order_value};
 
 use limits::CANDIDATES;
 
-// A length among others.
-fn length_at(lengths: &[u32], i: usize) -> usize
-    requires { i < length lengths.now }
-    ensures { (result ≡ get_or lengths.now i 0) × (result < 4294967296) }
-{
-    value::index_of(lengths[i])
-}
-
 // The exact sum: 512 lengths are below 2^41.
 fn sum_of(lengths: &[u32]) -> usize
     requires { length lengths.now ≤ candidates_limit }
     ensures { result ≡ total lengths.now }
 {
-    let mut sum = 0;
-    let mut i = 0;
-    while i < lengths.len() {
-        sum += length_at(lengths, i);
-        i += 1;
-    }
-    sum
+    lengths.iter().map(|n| value::index_of(*n)).sum()
 }
 
 // 02: "More than 512 of them, lengths that don't add up to the list, or a list buffer with fewer entries than candidates".
 pub fn in_order(lengths: &[u32], kinds: &[u8], list: &[i64]) -> bool
     ensures { result ≡ in_order_value lengths.now kinds.now list.now }
 {
-    if CANDIDATES < lengths.len() {
-        return false;
-    }
-    if sum_of(lengths) != kinds.len() {
-        return false;
-    }
-    lengths.len() <= list.len() / 3
+    lengths.len() <= CANDIDATES && sum_of(lengths) == kinds.len() && lengths.len() <= list.len() / 3
 }

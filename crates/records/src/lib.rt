@@ -7,10 +7,14 @@ ghost use Rattle.meaning_inner.specs.Inner.{is_closed, is_running, is_waiting, i
 ghost use Rattle.records.specs.Records.{status_is, kind_is, state_is};
 ghost use Rattle.records.specs.declared.Status.TheVariants.{Running, Waiting, Closed};
 ghost use Rattle.records.specs.declared.Kind.TheVariants.{Inner, Outer};
+ghost use Rattle.records.specs.declared.Answer.TheVariants.{Refused};
+ghost use Rattle.refusals.specs.Numbers.{refusal_number, refusal_or_zero};
 ghost use Rattle.records.specs.States.{running_at, with_status, with_kind, closed_at_zero, gate_of, gate_number, brought_back, not_opened};
 
+use refusals::Refusal;
+
 // A run goes on, waits for the inner run above it, or is closed.
-#[derive(Clone, Copy)]
+#[derive(Clone, Copy, Debug, PartialEq, Eq)]
 pub enum Status {
     Running,
     Waiting,
@@ -18,14 +22,14 @@ pub enum Status {
 }
 
 // 02 (h): "The inner record keeps the heights where it begins": of the registers, of the places.
-#[derive(Clone, Copy)]
+#[derive(Clone, Copy, Debug, PartialEq, Eq)]
 pub enum Kind {
     Outer,
-    Inner(u64, u64),
+    Inner { registers: u64, places: u64 },
 }
 
 // How a run stands and of what kind it is, tokens read, moves made, and the heights of both stacks.
-#[derive(Clone, Copy)]
+#[derive(Clone, Copy, Debug, PartialEq, Eq)]
 pub struct State {
     pub status: Status,
     pub kind: Kind,
@@ -35,7 +39,7 @@ pub struct State {
     pub places: u64,
 }
 
-#[derive(Clone, Copy)]
+#[derive(Clone, Copy, Debug, PartialEq, Eq)]
 pub enum Answer {
     // Opened, fed or previewed: the moves made since opening.
     More(u64),
@@ -49,10 +53,22 @@ pub enum Answer {
 }
 
 // What a call hands back.
-#[derive(Clone, Copy)]
+#[derive(Clone, Copy, Debug, PartialEq, Eq)]
 pub struct Handed {
     pub state: State,
     pub answer: Answer,
+}
+
+impl Answer {
+    // What turns a call back that read no token.
+    pub fn turned_back(refusal: Refusal) -> Answer
+        ensures { result ≡ Refused (refusal_number refusal) 0 }
+    {
+        Answer::Refused {
+            number: refusal.number(),
+            tokens: 0,
+        }
+    }
 }
 
 impl State {
@@ -89,29 +105,13 @@ impl State {
     fn with_status(self, status: Status) -> State
         ensures { result ≡ with_status status self }
     {
-        let kind = self.kind;
-        State {
-            status,
-            kind,
-            tokens: self.tokens,
-            moves: self.moves,
-            registers: self.registers,
-            places: self.places,
-        }
+        State { status, ..self }
     }
 
     fn with_kind(self, kind: Kind) -> State
         ensures { result ≡ with_kind kind self }
     {
-        let status = self.status;
-        State {
-            status,
-            kind,
-            tokens: self.tokens,
-            moves: self.moves,
-            registers: self.registers,
-            places: self.places,
-        }
+        State { kind, ..self }
     }
 
     // 02 (h): "Opening it marks the outer record as waiting".
@@ -138,7 +138,7 @@ impl State {
     pub fn inside(self, registers: u64, places: u64) -> State
         ensures { result ≡ with_kind (Inner registers places) self }
     {
-        self.with_kind(Kind::Inner(registers, places))
+        self.with_kind(Kind::Inner { registers, places })
     }
 
     // The state as of a run alone.
@@ -152,8 +152,7 @@ impl State {
     pub fn like(self, other: State) -> State
         ensures { result ≡ with_kind other.kind self }
     {
-        let kind = other.kind;
-        self.with_kind(kind)
+        self.with_kind(other.kind)
     }
 
     // ---- how a run stands
@@ -161,96 +160,49 @@ impl State {
     pub fn is_open(self) -> bool
         ensures { result ≡ Calls.is_open (state_is self) }
     {
-        let status = self.status;
-        let kind = self.kind;
-        match status {
-            Status::Running => match kind {
-                Kind::Outer => true,
-                Kind::Inner(registers, places) => false,
-            },
-            Status::Waiting => match kind {
-                Kind::Outer => false,
-                Kind::Inner(registers, places) => false,
-            },
-            Status::Closed => false,
-        }
+        self.is_running() && self.is_outer()
     }
 
     pub fn is_closed(self) -> bool
         ensures { result ≡ is_closed (status_is self.status) }
     {
-        let status = self.status;
-        match status {
-            Status::Running => false,
-            Status::Waiting => false,
-            Status::Closed => true,
-        }
+        self.status == Status::Closed
     }
 
     pub fn is_running(self) -> bool
         ensures { result ≡ is_running (status_is self.status) }
     {
-        let status = self.status;
-        match status {
-            Status::Running => true,
-            Status::Waiting => false,
-            Status::Closed => false,
-        }
+        self.status == Status::Running
     }
 
     pub fn is_waiting(self) -> bool
         ensures { result ≡ is_waiting (status_is self.status) }
     {
-        let status = self.status;
-        match status {
-            Status::Running => false,
-            Status::Waiting => true,
-            Status::Closed => false,
-        }
+        self.status == Status::Waiting
     }
 
     pub fn is_outer(self) -> bool
         ensures { result ≡ is_outer (kind_is self.kind) }
     {
-        let kind = self.kind;
-        match kind {
-            Kind::Outer => true,
-            Kind::Inner(registers, places) => false,
-        }
+        self.kind == Kind::Outer
     }
 
     // An inner run that begins at these heights.
     pub fn begins_at(self, height: u64, top: u64) -> bool
         ensures { result ≡ begins_at (kind_is self.kind) height top }
     {
-        let kind = self.kind;
-        match kind {
-            Kind::Outer => false,
-            Kind::Inner(registers, places) => {
-                if height != registers {
-                    return false;
-                }
-                top == places
-            }
-        }
+        matches!(self.kind, Kind::Inner { registers, places } if height == registers && top == places)
     }
 
-    // 33 or 40, and `other` for an inner record; 0 where the stacks are looked at.
-    pub fn gate(self, other: u32) -> u32
-        ensures { result ≡ gate_number (gate_of other (state_is self)) }
+    // What turns a call back before the stacks are looked at: 33 or 40, and `other` for an inner record.
+    pub fn gate(self, other: Refusal) -> Result<(), Refusal>
+        ensures { refusal_or_zero result ≡ gate_number (gate_of (refusal_number other) (state_is self)) }
     {
-        let status = self.status;
-        let kind = self.kind;
-        match status {
-            Status::Closed => 33,
-            Status::Running => match kind {
-                Kind::Outer => 0,
-                Kind::Inner(registers, places) => other,
-            },
-            Status::Waiting => match kind {
-                Kind::Outer => 40,
-                Kind::Inner(registers, places) => other,
-            },
+        match (self.status, self.kind) {
+            (Status::Closed, _) => Err(Refusal::Closed),
+            (_, Kind::Inner { .. }) => Err(other),
+            (Status::Waiting, Kind::Outer) => Err(Refusal::Waiting),
+            (Status::Running, Kind::Outer) => Ok(()),
         }
     }
 }

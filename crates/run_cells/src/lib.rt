@@ -4,31 +4,22 @@
 ghost use Rattle.std.specs.Prelude.{min, ◌≡◌, length, replicate};
 ghost use Rattle.meaning.specs.Value.{mark};
 
+// Kept: that `sheet`, `preview`, `rank` and `inner` cut to the lent cells is proved by this name; the minimum itself is std's.
 pub fn smaller(a: usize, b: usize) -> usize
     ensures { result ≡ min a b }
 {
-    if a < b {
-        return a;
-    }
-    b
+    a.min(b)
 }
 
+// What a cleared cell of each stack holds stands here alone.
 pub fn clear_registers(registers: &mut [i64])
     ensures { registers.new ≡ replicate (length registers.old) mark }
 {
-    let mut i = 0;
-    while i < registers.len() {
-        registers[i] = value::MARK;
-        i += 1;
-    }
+    registers.fill(value::MARK);
 }
 
 pub fn clear_places(places: &mut [u32])
     ensures { places.new ≡ replicate (length places.old) 0 }
 {
-    let mut i = 0;
-    while i < places.len() {
-        places[i] = 0;
-        i += 1;
-    }
+    places.fill(0);
 }

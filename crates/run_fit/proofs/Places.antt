@@ -3,13 +3,15 @@ use Prim.Native.Nat.{ℕ, zero, suc, ◌+◌, ◌-◌, ◌*◌, ◌<◌, ◌≤�
 use native.Mathlib.Numerals.{add-one}
 use native.Mathlib.Omega.{arith}
 use mathlib.Core.Path.{◌≡◌, refl, sym, ap, ap₂, ◌∙◌}
-use mathlib.Core.Bool.{Bool, true, false, ◌&&◌, not, and-false, or-false}
+use mathlib.Core.Bool.{Bool, true, false, ◌&&◌, not, cond, and-false, or-false}
+use Rattle.std.specs.List.{prefix_len}
+use Rattle.std.proofs.Common.{drop-drop}
 use mathlib.Core.List.{List, [], ◌∷◌, ◌++◌, append_assoc, append-nil}
 use borrow.Author.Tests.{eq-eqb, ne_eqb, eqb-true}
 use lib.IntN.{ℤ}
 use lib.Dec.{eqb}
-use lib.ListN.{length, get_or, drop, replicate, drop_of_length-le, replicate-append-replicate}
-use lib.Seq.{drop-cons}
+use lib.ListN.{length, get_or, take, drop, replicate, length-drop, drop_of_length-le}
+use lib.Seq.{drop-cons, take_all}
 use Rattle.meaning.specs.Grammar.{Symbol, nonterminal, Grammar, syn, segment_place, nonterminal_base}
 use Rattle.meaning.specs.Table.{symbol_of}
 use Rattle.meaning.specs.Calls.{Cell, valued, marked, cells_fit, awaited}
@@ -100,26 +102,28 @@ module _ {g : Grammar} {ws : List ℕ} (s : HasProgram g ws) (vs : List ℤ) (p 
   pub follow_alike : (n : ℕ) (ps : List ℕ) (at : ℕ) {r : ℕ} → Passes vs (repeated n (cells_between w w)) at r → follow g w (replicate n p ++ ps) vs at ≡ follow g w ps vs r
   follow_alike n ps at q = ap₂ (λ b c. not (eqb w 0) && (b && c)) (places_alike n ps) (ap (fits_from vs at) (cells_alike n ps) ∙ q.same (replicate (wait_inherited w) valued ++ cells_above g ps))
 
--- the places from f up to i are p
-pub alike_none : (places : List ℕ) (f p : ℕ) → drop f places ≡ replicate (f - f) p ++ drop f places
-alike_none places f p =
-    let n : 0 ≡ f - f = omega arith in
-    ap (λ k. replicate k p ++ drop f places) n
-
-pub alike_turn : (places : List ℕ) (f i p : ℕ) → f ≤ i → i < length places → get_or places i 0 ≡ p → drop f places ≡ replicate (i - f) p ++ drop i places → drop f places ≡ replicate (i + 1 - f) p ++ drop (i + 1) places
-alike_turn places f i p m l e q =
-    let rest : List ℕ = drop (i + 1) places in
-    let n : i - f + 1 ≡ i + 1 - f = omega arith in
-    q
-    ∙ (ap (λ z. replicate (i - f) p ++ z) (drop-cons places i 0 l ∙ ap₂ (λ x ys. x ∷ ys) e (ap (λ k. drop k places) (sym (add-one i))))
-    ∙ (sym (append_assoc (replicate (i - f) p) (replicate 1 p) rest)
-    ∙ (ap (λ z. z ++ rest) (replicate-append-replicate (i - f) 1 p) ∙ ap (λ k. replicate k p ++ rest) n)))
+-- the places in front that are p
+front_alike : (p : ℕ) (ps : List ℕ) → ps ≡ replicate (prefix_len (λ x. eqb x p) ps) p ++ drop (prefix_len (λ x. eqb x p) ps) ps
+front_alike p [] = refl
+front_alike p (x ∷ xs) = by (eqb x p) refl (front_alike p xs)
+  where
+    by : (b : Bool) → eqb x p ≡ b → xs ≡ replicate (prefix_len (λ y. eqb y p) xs) p ++ drop (prefix_len (λ y. eqb y p) xs) xs → x ∷ xs ≡ replicate (cond b (1 + prefix_len (λ y. eqb y p) xs) 0) p ++ drop (cond b (1 + prefix_len (λ y. eqb y p) xs) 0) (x ∷ xs)
+    by true e q = let s : suc (prefix_len (λ y. eqb y p) xs) ≡ 1 + prefix_len (λ y. eqb y p) xs = omega arith in ap₂ (λ y ys. y ∷ ys) (eqb-true x p e) q ∙ ap (λ j. replicate j p ++ drop j (x ∷ xs)) s
+    by false e q = refl
 
 -- a place, and those behind it that are the same
-pub alike_from : (places : List ℕ) (i p r : ℕ) → i < length places → get_or places i 0 ≡ p → i + 1 ≤ r → drop (i + 1) places ≡ replicate (r - (i + 1)) p ++ drop r places → drop i places ≡ replicate (r - i) p ++ drop r places
-alike_from places i p r l e m q =
-    let n : r - i ≡ suc (r - (i + 1)) = omega arith in
-    drop-cons places i 0 l ∙ (ap₂ (λ x ys. x ∷ ys) e (ap (λ k. drop k places) (sym (add-one i)) ∙ q) ∙ ap (λ k. replicate k p ++ drop r places) (sym n))
+pub alike_from : (places : List ℕ) (i p n : ℕ) → i < length places → get_or places i 0 ≡ p → n ≡ prefix_len (λ x. eqb x p) (take (length places - (i + 1)) (drop (i + 1) places)) → drop i places ≡ replicate (1 + n) p ++ drop (i + (1 + n)) places
+alike_from places i p n l e q =
+    let whole : take (length places - (i + 1)) (drop (i + 1) places) ≡ drop (i + 1) places = take_all (length places - (i + 1)) (drop (i + 1) places) (omega (arith, length-drop (i + 1) places)) in
+    let s : suc n ≡ 1 + n = omega arith in
+    let k : i + 1 + n ≡ i + (1 + n) = omega arith in
+    let rest : drop (i + 1) places ≡ replicate n p ++ drop (i + (1 + n)) places =
+    front_alike p (drop (i + 1) places)
+    ∙ (ap (λ j. replicate j p ++ drop j (drop (i + 1) places)) (sym (q ∙ ap (prefix_len (λ x. eqb x p)) whole))
+    ∙ ap (λ z. replicate n p ++ z) (drop-drop n (i + 1) places ∙ ap (λ j. drop j places) k)) in
+    drop-cons places i 0 l
+    ∙ (ap₂ (λ x ys. x ∷ ys) e (ap (λ j. drop j places) (sym (add-one i)) ∙ rest)
+    ∙ ap (λ j. replicate j p ++ drop (i + (1 + n)) places) s)
 
 -- ---- the end of the places, and of the registers
 

@@ -8,41 +8,18 @@ ghost use Rattle.meaning.specs.Calls.{is_mark};
 pub fn few_marked(cells: &[i64]) -> bool
     ensures { result ≡ all is_mark cells.now }
 {
-    let mut i = 0;
-    while i < cells.len() {
-        let v = cells[i];
-        if value::is_mark(v) {
-            i += 1;
-        } else {
-            return false;
-        }
-    }
-    true
+    cells.iter().copied().all(value::is_mark)
 }
 
 pub fn all_valued(cells: &[i64]) -> bool
     ensures { result ≡ all in_range cells.now }
 {
-    let mut i = 0;
-    while i < cells.len() {
-        let v = cells[i];
-        if value::in_range(v) {
-            i += 1;
-        } else {
-            return false;
-        }
-    }
-    true
+    cells.iter().copied().all(value::in_range)
 }
 
+// Many cells: their bits are gathered with no way out of the loop, so that it takes several at once.
 pub fn all_zero(cells: &[u32]) -> bool
     ensures { result ≡ all (λ p. eqb p 0) cells.now }
 {
-    let mut bits: u32 = 0;
-    let mut i = 0;
-    while i < cells.len() {
-        bits |= cells[i];
-        i += 1;
-    }
-    bits == 0
+    cells.iter().fold(0, |bits, p| bits | *p) == 0
 }

@@ -1,7 +1,8 @@
 // 34: whether the stacks fit, in any record and any lent cells. Registers are taken from the bottom up, as the places tell them.
 #![tactic(auto)]
 
-ghost use Rattle.std.specs.Prelude.{◌+◌, ◌-◌, ◌≤◌, ◌≡◌, ◌&&◌, ◌++◌, length, drop, replicate, eqb};
+ghost use Rattle.std.specs.Prelude.{◌+◌, ◌≤◌, ◌≡◌, ◌&&◌, length, drop, eqb};
+ghost use Rattle.std.specs.List.{prefix_len};
 ghost use Rattle.meaning.specs.Limits.{registers_limit, places_limit};
 ghost use Rattle.meaning.specs.Grammar.{Grammar, nonterminal, nonterminal_base};
 ghost use Rattle.meaning.specs.Calls.{stacks_fit};
@@ -19,6 +20,7 @@ pub mod marked;
 pub mod past;
 
 // More than any place.
+// Kept: it stands for no place below; an `Option` would be taken apart at each turn of the loop, and say no more.
 const NO_PLACE: usize = 4294967296;
 
 // ---- what the program says of a place
@@ -68,18 +70,14 @@ fn stands_on(next: usize, word: usize) -> bool
 
 // ---- places
 
-// Where the places that are this one end, from `from` on.
-fn alike(places: &[u32], from: usize, place: usize) -> usize
-    ensures { (from ≤ result) × (drop from places.now ≡ replicate (result - from) place ++ drop result places.now) }
+// How many places at the front are this one.
+fn alike(places: &[u32], place: usize) -> usize
+    ensures { result ≡ prefix_len (λ p. eqb p place) places.now }
 {
-    let mut i = from;
-    while i < places.len() {
-        if run_moves::word_at(places, i) != place {
-            return i;
-        }
-        i += 1;
-    }
-    i
+    places
+        .iter()
+        .take_while(|p| value::index_of(**p) == place)
+        .count()
 }
 
 // Whether the places above the bottom one stand on each other, and the registers from `at` up are theirs. The bottom place's word has the start symbol alone. Equal places, as nests and lists leave them, are looked up once and taken together.
@@ -94,6 +92,7 @@ fn stand_above(registers: &[i64], at: usize, places: &[u32], program: &[u32]) ->
     let mut below = NO_PLACE;
     let mut reached = at;
     let mut i = 1;
+    // Kept: a turn takes one place or all equal ones, so no range counts the turns.
     while i < places.len() {
         let place = run_moves::word_at(places, i);
         if place != below {
@@ -112,16 +111,14 @@ fn stand_above(registers: &[i64], at: usize, places: &[u32], program: &[u32]) ->
             if !stands_on(word, word) {
                 return false;
             }
-            let end = alike(places, i + 1, place);
-            reached = crate::past::past_alike(registers, reached, word, end - i);
-            i = end;
+            let times = 1 + alike(&places[i + 1..], place);
+            reached = crate::past::past_alike(registers, reached, word, times);
+            i += times;
         }
     }
-    if word == 0 {
-        return false;
-    }
-    crate::past::past_valued(registers, reached, program_parts::wait_inherited(word))
-        == registers.len()
+    word != 0
+        && crate::past::past_valued(registers, reached, program_parts::wait_inherited(word))
+            == registers.len()
 }
 
 // ---- the whole test
@@ -134,19 +131,17 @@ fn stand(registers: &[i64], places: &[u32], program: &[u32]) -> bool
     if places.len() == 0 {
         return false;
     }
-    let bottom = places[0];
     let count = run_moves::word_at(program, program_parts::REGISTERS);
-    if bottom == LEFT {
-        if places.len() != 1 {
-            return false;
+    match places[0] {
+        LEFT => {
+            places.len() == 1 && crate::past::past_valued(registers, 0, count) == registers.len()
         }
-        return crate::past::past_valued(registers, 0, count) == registers.len();
+        SEGMENT => {
+            let at = crate::past::past_marked(registers, 0, count);
+            stand_above(registers, at, places, program)
+        }
+        _ => false,
     }
-    if bottom != SEGMENT {
-        return false;
-    }
-    let at = crate::past::past_marked(registers, 0, count);
-    stand_above(registers, at, places, program)
 }
 
 // 34: whether the lent cells that count fit a record's numbers.
@@ -162,6 +157,7 @@ pub fn fits(
     requires { (length registers.now ≤ registers_limit) × (length places.now ≤ places_limit) × Readable program.now }
     ensures { (g : Grammar) → HasProgram g program.now → result ≡ stacks_fit g (numbers tokens moves register_height place_height) (stacks_of registers.now places.now) }
 {
+    // Kept: as one chain of `&&` the tests join before each later one, and the proof of what is returned did not close.
     if TOKENS_LIMIT < tokens {
         return false;
     }

@@ -16,6 +16,7 @@ pub fn all_marked(cells: &[i64]) -> bool
     let mut d6: i64 = 0;
     let mut d7: i64 = 0;
     let mut i = 0;
+    // Kept: eight cells a turn, each with bits of its own, for speed.
     while 8 <= cells.len() - i {
         d0 |= cells[i] ^ value::MARK;
         d1 |= cells[i + 1] ^ value::MARK;

@@ -16,9 +16,10 @@ pub fn past_valued(registers: &[i64], at: usize, count: usize) -> usize
         return registers.len() + 1;
     }
     if crate::cells::all_valued(&registers[at..end]) {
-        return end;
+        end
+    } else {
+        registers.len() + 1
     }
-    registers.len() + 1
 }
 
 // Where `count` registers that are marked end that stand from `at` on; past the end of the registers where they do not stand.
@@ -31,9 +32,10 @@ pub fn past_marked(registers: &[i64], at: usize, count: usize) -> usize
         return registers.len() + 1;
     }
     if crate::cells::few_marked(&registers[at..end]) {
-        return end;
+        end
+    } else {
+        registers.len() + 1
     }
-    registers.len() + 1
 }
 
 // Where `valued` registers with values and `marked` ones above them end; past the end of the registers where they do not stand.
@@ -50,9 +52,10 @@ fn past_both(registers: &[i64], at: usize, valued: usize, marked: usize) -> usiz
         return registers.len() + 1;
     }
     if crate::cells::few_marked(&registers[from..end]) {
-        return end;
+        end
+    } else {
+        registers.len() + 1
     }
-    registers.len() + 1
 }
 
 // Past the registers that come with a place, by its word `next` and the word of the place below: the inherited ones of the symbol that the latter waits at, those of the symbols that it has passed itself and, marked, the synthesized ones of the symbol that it waits at.
@@ -76,10 +79,8 @@ pub fn past_alike(registers: &[i64], at: usize, word: usize, times: usize) -> us
     let valued = wait_inherited(word) + wait_passed(word);
     let marked = wait_marked(word);
     let mut reached = at;
-    let mut k = 0;
-    while k < times {
+    for _turn in 0..times {
         reached = past_both(registers, reached, valued, marked);
-        k += 1;
     }
     reached
 }

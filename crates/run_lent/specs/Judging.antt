@@ -8,6 +8,9 @@ use Rattle.meaning.specs.Calls.{Status, running, waiting, closed, Kind, outer, i
 use Rattle.meaning.specs.PublicCalls.{stacks_of}
 use Rattle.theory_base.specs.Members.{T→true}
 use Rattle.theory_answers.specs.FitTest.{fit_exactly}
+use Rattle.refusals.specs.declared.Refusal.{Refusal}
+use Rattle.refusals.specs.declared.Refusal.TheVariants.{UnknownToken, UnexpectedToken, ConditionFalse, ValueOutside, OverTooEarly, AreaShort, NoRegister, NoPlace, Closed, Unfit, LimitReached, BufferShort, Unsuited, UnequalLists, ScratchShort, Waiting, SheetShort, WindowUnfit, SheetWrong}
+use Rattle.refusals.specs.Numbers.{refusal_number}
 use Rattle.records.specs.States.{gate_of, gate_number}
 use Rattle.run_fit.specs.Cut.{fits_cut}
 
@@ -83,3 +86,25 @@ not_turned g r m e = (fit_exactly g r m).0 (passed 34 g r m (omega arith) e).1
 -- by the lent cells alone
 pub number_cut : (k : ℕ) (g : Grammar) (r : Record) (vs : List ℤ) (ps : List ℕ) (i j : ℕ) → i ≡ min (length vs) registers_limit → j ≡ min (length ps) places_limit → (n : ℕ) → n ≡ number_for k g r (stacks_of (take i vs) (take j ps)) → n ≡ number_for k g r (stacks_of vs ps)
 number_cut k g r vs ps i j e d n q = q ∙ (ap₂ (λ x y. number_for k g r (stacks_of (take x vs) (take y ps))) e d ∙ ap (number_by (gate_of k r)) (sym (fits_cut g r (stacks_of vs ps))))
+
+-- no refusal has the number 0
+pub refused_number : (r : Refusal) → 20 ≤ refusal_number r
+refused_number UnknownToken = omega arith
+refused_number UnexpectedToken = omega arith
+refused_number ConditionFalse = omega arith
+refused_number ValueOutside = omega arith
+refused_number OverTooEarly = omega arith
+refused_number AreaShort = omega arith
+refused_number NoRegister = omega arith
+refused_number NoPlace = omega arith
+refused_number Closed = omega arith
+refused_number Unfit = omega arith
+refused_number LimitReached = omega arith
+refused_number BufferShort = omega arith
+refused_number Unsuited = omega arith
+refused_number UnequalLists = omega arith
+refused_number ScratchShort = omega arith
+refused_number Waiting = omega arith
+refused_number SheetShort = omega arith
+refused_number WindowUnfit = omega arith
+refused_number SheetWrong = omega arith

@@ -10,9 +10,8 @@ use Rattle.meaning.specs.Calls.{Record, Stacks, lent_of, config_of, after_feed, 
 use Rattle.theory_base.specs.Feeds.{even_feed, uneven_feed}
 use Rattle.theory_program.specs.Addresses.{Begins}
 use Rattle.run_moves.specs.declared.Run.{Run}
-use Rattle.run_machine.specs.declared.Ended as Ended
 use Rattle.run_moves.specs.Held.{Held}
-use Rattle.run_machine.specs.Advancing.{Running, Settles}
+use Rattle.run_machine.specs.Advancing.{Ended, Running, Settles}
 use Rattle.run_machine.specs.Feeding.{Feeds, Finishes}
 use Rattle.meaning.specs.PublicCalls.{stacks_of, Call, feed, finish, call_of}
 use Rattle.run_fit.specs.HasProgram.{HasProgram, Readable}
@@ -63,7 +62,7 @@ module _ {ws : List ℕ} {vs : List ℤ} {ps : List ℕ} {r : Record} (j : Judge
     pub judged_running : Running ws vs ps run
     judged_running = let b = j.brought in record { grammar = b.grammar; lent = lent_of (stacks_of vs ps); config = config_of b.grammar r (stacks_of vs ps); held = held_of b.grammar b.shown }
 
-    pub feed_made : (ks : List ℕ) (us : List ℤ) → length ks ≡ length us → (vs' : List ℤ) (ps' : List ℕ) (e : Ended.Ended) (k : Handed) → Feeds ws ks us vs ps run vs' ps' e → k ≡ fed_from e
+    pub feed_made : (ks : List ℕ) (us : List ℤ) → length ks ≡ length us → (vs' : List ℤ) (ps' : List ℕ) (e : Ended) (k : Handed) → Feeds ws ks us vs ps run vs' ps' e → k ≡ fed_from e
         → (g : Grammar) → HasProgram g ws → handed_is k vs' ps' ≡ feed_of g r (stacks_of vs ps) ks us
     feed_made ks us even vs' ps' e k a q g s =
         let m : Stacks = stacks_of vs ps in
@@ -72,7 +71,7 @@ module _ {ws : List ℕ} {vs : List ℤ} {ps : List ℕ} {r : Record} (j : Judge
         ∙ (feed_leaves_lem g ws vs ps j.few j.little vs' ps' e o (a g (lent_of m) (config_of g r m) (held_of g s))
         ∙ (sym (when_not g r m (after_feed g m o) (sym (j.passed g s))) ∙ sym (even_feed g r m ks us even)))
 
-    module _ (vs' : List ℤ) (ps' : List ℕ) (e : Ended.Ended) (a : Finishes ws vs ps run vs' ps' e) where
+    module _ (vs' : List ℤ) (ps' : List ℕ) (e : Ended) (a : Finishes ws vs ps run vs' ps' e) where
       settled : (g : Grammar) → HasProgram g ws → Settles g ws (lent_of (stacks_of vs ps)) (finish_all g (lent_of (stacks_of vs ps)) (config_of g r (stacks_of vs ps))) vs' ps' e
       settled g s = a g (lent_of (stacks_of vs ps)) (config_of g r (stacks_of vs ps)) (held_of g s)
 

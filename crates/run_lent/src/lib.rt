@@ -8,14 +8,15 @@ ghost use Rattle.meaning.specs.Calls.{feed_of, finish_of};
 ghost use Rattle.meaning.specs.PublicCalls.{stacks_of, call_of};
 ghost use Rattle.run_fit.specs.HasProgram.{HasProgram, Readable};
 ghost use Rattle.records.specs.Records.{state_is, handed_is};
+ghost use Rattle.refusals.specs.Numbers.{refusal_number, refusal_or_zero};
 ghost use Rattle.run_lent.specs.Judging.{number_for};
 ghost use Rattle.run_lent.specs.Performing.{Judged, call_is};
 
-use limits::UNFIT;
 use records::{Answer, Handed, State, as_brought};
+use refusals::Refusal;
 
 // The calls on a run that is opened.
-#[derive(Clone, Copy)]
+#[derive(Clone, Copy, Debug, PartialEq, Eq)]
 pub enum Call {
     Feed,
     Finish,
@@ -23,21 +24,18 @@ pub enum Call {
 
 // ---- on exactly the lent cells
 
-// 33, 40 or 34; 0 where the call goes on.
+// What turns the call back, if anything: 33, 40 or 34, `other` in the place of 34 for an inner record.
 fn turned_back(
-    other: u32,
+    other: Refusal,
     registers: &[i64],
     places: &[u32],
     program: &[u32],
     brought: State,
-) -> u32
-    requires { (1 ≤ other) × (length registers.now ≤ registers_limit) × (length places.now ≤ places_limit) × Readable program.now }
-    ensures { (g : Grammar) → HasProgram g program.now → result ≡ number_for other g (state_is brought) (stacks_of registers.now places.now) }
+) -> Result<(), Refusal>
+    requires { (length registers.now ≤ registers_limit) × (length places.now ≤ places_limit) × Readable program.now }
+    ensures { (g : Grammar) → HasProgram g program.now → refusal_or_zero result ≡ number_for (refusal_number other) g (state_is brought) (stacks_of registers.now places.now) }
 {
-    let number = brought.gate(other);
-    if number != 0 {
-        return number;
-    }
+    brought.gate(other)?;
     if run_fit::fits(
         registers,
         places,
@@ -47,9 +45,10 @@ fn turned_back(
         brought.places,
         program,
     ) {
-        return 0;
+        Ok(())
+    } else {
+        Err(Refusal::Unfit)
     }
-    UNFIT
 }
 
 // The tokens of the lists, one after the other. 02 (e): "Lists of unequal length are turned back as 38, after 34".
@@ -65,13 +64,7 @@ fn feed_lent(
     ensures { (g : Grammar) → HasProgram g program.now → handed_is result registers.new places.new ≡ feed_of g (state_is brought) (stacks_of registers.old places.old) kinds.now values.now }
 {
     if kinds.len() != values.len() {
-        return as_brought(
-            brought,
-            Answer::Refused {
-                number: 38,
-                tokens: 0,
-            },
-        );
+        return as_brought(brought, Answer::turned_back(Refusal::UnequalLists));
     }
     let run = run_states::run_of(places, program, brought);
     run_states::fed(run_machine::feed(registers, places, program, run, kinds, values))
@@ -100,9 +93,8 @@ fn call_lent(
     requires { (length registers.old ≤ registers_limit) × (length places.old ≤ places_limit) × Readable program.now }
     ensures { (g : Grammar) → HasProgram g program.now → handed_is result registers.new places.new ≡ call_of g (state_is brought) (stacks_of registers.old places.old) (call_is call kinds.now values.now) }
 {
-    let number = turned_back(UNFIT, registers, places, program, brought);
-    if number != 0 {
-        return as_brought(brought, Answer::Refused { number, tokens: 0 });
+    if let Err(refusal) = turned_back(Refusal::Unfit, registers, places, program, brought) {
+        return as_brought(brought, Answer::turned_back(refusal));
     }
     match call {
         Call::Feed => feed_lent(registers, places, program, brought, kinds, values),
@@ -114,14 +106,14 @@ fn call_lent(
 
 // The judgement of a record alone.
 pub fn judge_cells(
-    other: u32,
+    other: Refusal,
     registers: &[i64],
     places: &[u32],
     program: &[u32],
     brought: State,
-) -> u32
-    requires { (1 ≤ other) × Readable program.now }
-    ensures { (g : Grammar) → HasProgram g program.now → result ≡ number_for other g (state_is brought) (stacks_of registers.now places.now) }
+) -> Result<(), Refusal>
+    requires { Readable program.now }
+    ensures { (g : Grammar) → HasProgram g program.now → refusal_or_zero result ≡ number_for (refusal_number other) g (state_is brought) (stacks_of registers.now places.now) }
 {
     let n = run_cells::smaller(registers.len(), limits::REGISTERS);
     let k = run_cells::smaller(places.len(), limits::PLACES);

@@ -5,33 +5,33 @@ ghost use Rattle.std.specs.Prelude.{◌-◌, ◌≤◌, ◌<◌, ◌≡◌, leng
 ghost use Rattle.run_looking.specs.Judging as Judging;
 ghost use Rattle.run_looking.specs.Judging.{judged_of, value_at};
 
-// The number of a token that is taken, which is no number of a refusal.
-pub const TAKEN: u32 = 1;
+use refusals::Refusal;
+use run_moves::Halt;
 
 // What is taken of a list: the tokens read before it, the bound of its kinds, and the most tokens that may be read before one.
-#[derive(Clone, Copy)]
+#[derive(Clone, Copy, Debug, PartialEq, Eq)]
 pub struct Limits {
     pub from: u64,
     pub bound: usize,
     pub most: u64,
 }
 
-// Whether what comes next is taken: 0 where nothing does, and the machine stops; otherwise the number that refuses it before its moves. 01: "35 a token after 65,535", "20 token not below T, judged before its moves".
-pub fn judged(tokens: u64, kinds: &[u8], limits: Limits) -> u32
+// Whether what comes next is taken: a pause where nothing does; otherwise what refuses it before its moves. 01: "35 a token after 65,535", "20 token not below T, judged before its moves".
+pub fn judged(tokens: u64, kinds: &[u8], limits: Limits) -> Result<(), Halt>
     requires { limits.from ≤ tokens }
     ensures { result ≡ judged_of limits.bound limits.most kinds.now (tokens - limits.from) tokens }
 {
     let i = (tokens - limits.from) as usize;
     if kinds.len() <= i {
-        return 0;
+        return Err(Halt::Pause);
     }
     if limits.most < tokens {
-        return 35;
+        return Err(Halt::Refused(Refusal::LimitReached));
     }
     if limits.bound <= kinds[i] as usize {
-        return 20;
+        return Err(Halt::Refused(Refusal::UnknownToken));
     }
-    TAKEN
+    Ok(())
 }
 
 // A token's value, or the mark where its terminal carries none.
@@ -49,11 +49,7 @@ pub fn carried(program: &[u32], kind: usize, value: i32) -> i64
 pub fn looks_ahead(operation: usize) -> bool
     ensures { result ≡ Judging.looks_ahead operation }
 {
-    if operation == operations::READ {
-        return true;
-    }
-    if operation == operations::PREDICT {
-        return true;
-    }
-    operation == operations::NOTHING
+    operation == operations::READ
+        || operation == operations::PREDICT
+        || operation == operations::NOTHING
 }

@@ -8,20 +8,19 @@ use Rattle.meaning.specs.Calls.{tokens_from}
 use Rattle.meaning.specs.Machine.{Config, Lent, Coming, comes, Settled, stopped, failed, advance_from, feed_token, feed_all, finish_all, tokens_limit}
 use Rattle.theory_program.specs.Records.{segment_words_lem}
 use Rattle.run_moves.specs.declared.Run.{Run}
-use Rattle.run_machine.specs.declared.Ended as Ended
 use Rattle.run_moves.specs.Held.{Held}
-use Rattle.run_machine.specs.Advancing.{Settles, Running}
+use Rattle.run_machine.specs.Advancing.{Ended, Settles, Running}
 use Rattle.run_next_token.specs.Coming.{comes_if, chosen, take_look, going_on, take_looks}
 pub use Rattle.run_next_token.specs.Coming.{comes_to, comes_is, comes_ahead}
 
 -- what is answered, whatever configuration is held at entry
-abbrev pub Answered : List ℕ → (Grammar → Lent → Config → Settled) → List ℤ → List ℕ → Run → List ℤ → List ℕ → Ended.Ended → Type 0
+abbrev pub Answered : List ℕ → (Grammar → Lent → Config → Settled) → List ℤ → List ℕ → Run → List ℤ → List ℕ → Ended → Type 0
 Answered ws f m₀ ps₀ run₀ m ps e = (g : Grammar) (lent : Lent) (c : Config) → Held g ws lent m₀ ps₀ run₀ c → Settles g ws lent (f g lent c) m ps e
 
-abbrev pub TakesTokens : ℕ → ℕ → List ℕ → List ℕ → List ℤ → List ℤ → List ℕ → Run → List ℤ → List ℕ → Ended.Ended → Type 0
+abbrev pub TakesTokens : ℕ → ℕ → List ℕ → List ℕ → List ℤ → List ℤ → List ℕ → Run → List ℤ → List ℕ → Ended → Type 0
 TakesTokens bound most ws us vs = Answered ws (λ g lent c. take_looks bound most g lent (tokens_from us vs) c)
 
-abbrev pub Feeds : List ℕ → List ℕ → List ℤ → List ℤ → List ℕ → Run → List ℤ → List ℕ → Ended.Ended → Type 0
+abbrev pub Feeds : List ℕ → List ℕ → List ℤ → List ℤ → List ℕ → Run → List ℤ → List ℕ → Ended → Type 0
 Feeds ws ks vs = Answered ws (λ g lent c. feed_all g lent (leaves g (tokens_from ks vs)) c)
 
 -- ---- tokens, and one look alone
@@ -53,10 +52,10 @@ end_taken g lent most v c l = ap (λ o. going_on o stopped) (ap (λ a. chosen g 
     go (stopped d) = refl
 
 -- what the end of the segment brings about
-abbrev pub Finishes : List ℕ → List ℤ → List ℕ → Run → List ℤ → List ℕ → Ended.Ended → Type 0
+abbrev pub Finishes : List ℕ → List ℤ → List ℕ → Run → List ℤ → List ℕ → Ended → Type 0
 Finishes ws = Answered ws (λ g lent c. finish_all g lent c)
 
-module _ {ws : List ℕ} {m : List ℤ} {ps : List ℕ} {run : Run} (m' : List ℤ) (ps' : List ℕ) (e : Ended.Ended) where
+module _ {ws : List ℕ} {m : List ℤ} {ps : List ℕ} {run : Run} (m' : List ℤ) (ps' : List ℕ) (e : Ended) where
   pub tokens_fed : (bound : ℕ) (ks : List ℕ) (vs : List ℤ) → bound ≡ get_or ws 3 0 → TakesTokens bound (tokens_limit - 1) ws ks vs m ps run m' ps' e → Feeds ws ks vs m ps run m' ps' e
   tokens_fed bound ks vs b a g lent c h =
       let ts = tokens_from ks vs in

@@ -8,9 +8,10 @@ ghost use Rattle.run_machine.specs.Feeding.{TakesTokens, Feeds, Finishes};
 ghost use Rattle.run_machine.specs.Flows.{ended_by};
 
 use limits::{END, TOKENS_BEFORE};
+use refusals::Refusal;
 use run_looking::Limits;
-use run_moves::Run;
-use run_turn::{Onward, RETURN_WORDS};
+use run_moves::{Halt, Run};
+use run_turn::{Over, RETURN_WORDS};
 
 // In the place of a place, where no return address is kept.
 const NO_PLACE: usize = 65536;
@@ -20,21 +21,24 @@ const END_KIND: u8 = END as u8;
 
 const KINDS: usize = END + 1;
 
-// What moves lead to until one needs what comes next: a stop, or the number that refuses the move at hand.
-#[derive(Clone, Copy)]
-pub enum Ended {
-    Stopped(Run),
-    Failed(Run, u32),
+// The run at which what comes or the move at hand is refused, and by what.
+#[derive(Clone, Copy, Debug, PartialEq, Eq)]
+pub struct Failed {
+    pub run: Run,
+    pub refusal: Refusal,
 }
 
-// A stop for the number 0, otherwise the refusal.
-fn ending(run: Run, k: u32) -> Ended
-    ensures { result ≡ ended_by run k }
+// What moves led to once none is made any more: the run that waits at a pause, otherwise the refusal.
+fn ending(over: Over) -> Result<Run, Failed>
+    ensures { result ≡ ended_by over.run over.halt }
 {
-    if k == 0 {
-        return Ended::Stopped(run);
+    match over.halt {
+        Halt::Pause => Ok(over.run),
+        Halt::Refused(refusal) => Err(Failed {
+            run: over.run,
+            refusal,
+        }),
     }
-    Ended::Failed(run, k)
 }
 
 // The moves for all that comes, in one loop, so that the run stays in the processor's registers: as many tokens are read as the run counts more than before. The end of the segment goes this way too, and comes alone.
@@ -47,7 +51,7 @@ fn take_tokens(
     values: &[i32],
     bound: usize,
     most: u64,
-) -> Ended
+) -> Result<Run, Failed>
     requires { Fed bound program.now registers.old places.old run kinds.now values.now }
     ensures { TakesTokens bound most program.now kinds.now values.now registers.old places.old run registers.new places.new result }
 {
@@ -56,12 +60,12 @@ fn take_tokens(
         bound,
         most,
     };
-    let first = run_looking::judged(run.tokens, kinds, limits);
-    if first != run_looking::TAKEN {
-        return ending(run, first);
+    if let Err(halt) = run_looking::judged(run.tokens, kinds, limits) {
+        return ending(Over { run, halt });
     }
     let mut returns = [NO_PLACE; RETURN_WORDS];
     let mut state = run;
+    // Kept: turn after turn, until one says at which run the moves end and why; nothing counts the turns.
     loop {
         match run_turn::turn(
             registers,
@@ -73,8 +77,8 @@ fn take_tokens(
             values,
             limits,
         ) {
-            Onward::Going(next) => state = next,
-            Onward::Over(at, n) => return ending(at, n),
+            Ok(next) => state = next,
+            Err(over) => return ending(over),
         }
     }
 }
@@ -87,7 +91,7 @@ pub fn feed(
     run: Run,
     kinds: &[u8],
     values: &[i32],
-) -> Ended
+) -> Result<Run, Failed>
     requires { Running program.now registers.old places.old run × (length kinds.now ≡ length values.now) }
     ensures { Feeds program.now kinds.now values.now registers.old places.old run registers.new places.new result }
 {
@@ -105,7 +109,12 @@ pub fn feed(
 }
 
 // The end of the segment, with no limit on the tokens read before it.
-pub fn finish(registers: &mut [i64], places: &mut [u32], program: &[u32], run: Run) -> Ended
+pub fn finish(
+    registers: &mut [i64],
+    places: &mut [u32],
+    program: &[u32],
+    run: Run,
+) -> Result<Run, Failed>
     requires { Running program.now registers.old places.old run }
     ensures { Finishes program.now registers.old places.old run registers.new places.new result }
 {

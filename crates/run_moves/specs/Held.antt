@@ -1,5 +1,5 @@
 -- A run in memory: how the lent stacks, the program's words and the run's numbers hold a configuration, and what it is to answer with a move.
-use Rattle.std.specs.Prelude.{ℕ, ◌+◌, ◌≤◌, ◌<◌, ◌≡◌, refl, cond, length, get_or, ℤ}
+use Rattle.std.specs.Prelude.{ℕ, ◌+◌, ◌≤◌, ◌<◌, ◌≡◌, refl, cond, length, get_or, ℤ, Result, Ok, Err}
 use Rattle.std.proofs.Common.{arith, sym, ap, ◌∙◌, subst, inl}
 use mathlib.Core.List.{List, [], ◌∷◌, map, cons≢nil}
 use Rattle.std.proofs.lemmas.List.{length-map}
@@ -9,7 +9,7 @@ use Rattle.meaning.specs.Value.{mark}
 use Rattle.meaning.specs.Scheme.{Instruction, add, evaluate, expect, test, remove}
 use Rattle.meaning.specs.Rules.{WellFormed}
 use Rattle.meaning.specs.Machine.{Frame, Config, Lent, Coming, Outcome, moved, blocked, next, next_of, move, place_of, moves_limit, tokens_limit}
-use Rattle.meaning.specs.Part.{frame, config}
+use Rattle.meaning.specs.Part.{frame}
 use Rattle.meaning.specs.Program.{scheme_words, add_operation, evaluate_operation, read_operation, predict_operation, test_operation, remove_operation, nothing_operation}
 use Rattle.meaning_statements.specs.CallStatements.{Handles}
 use Rattle.theory_answers.specs.Shape.{Due, adds, hands, waits, tests, closes, removes, ends}
@@ -21,8 +21,10 @@ use Rattle.theory_program.specs.Parts.{head_operation, head_operand}
 use Rattle.theory_program.specs.Code.{operation, operand, code_head, is_add, is_evaluate, is_terminal_lem, is_nonterminal_lem, is_test, is_remove}
 use Rattle.theory_program.specs.Proper.{ProperInstruction}
 use Rattle.run_moves.specs.declared.Run.{Run}
-use Rattle.run_moves.specs.declared.Step.{Step}
-use Rattle.run_moves.specs.declared.Step.TheVariants.{Moved, Blocked}
+use Rattle.refusals.specs.declared.Refusal.{Refusal}
+use Rattle.refusals.specs.Numbers.{refusal_number}
+use Rattle.run_moves.specs.declared.Halt.{Halt}
+use Rattle.run_moves.specs.declared.Halt.TheVariants.{Pause, Refused}
 use Rattle.run_moves.specs.Laid.{LaidIn, laid_size}
 use Rattle.run_moves.specs.Ahead.{Ahead, ahead_code, ahead_over}
 
@@ -59,10 +61,28 @@ pub record Bounds (ws : List ℕ) (m : List ℤ) (ps : List ℕ) (run : Run) : T
 abbrev pub after_move : Run → ℕ → Run
 after_move run a = record { tokens = run.tokens; moves = run.moves + 1; registers = run.registers; places = run.places; at = a }
 
+-- what a move leads to: the run after it, or what refuses it
+abbrev pub Step : Type 0
+Step = Result Run Refusal
+
 -- a step for an outcome, from memory m and ps to m' and ps': a refused move changes nothing
 abbrev pub Made : Grammar → List ℕ → Lent → Outcome → List ℤ → List ℕ → List ℤ → List ℕ → Step → Type 0
-Made g ws lent o m ps m' ps' (Moved run) = (d : Config) × (o ≡ moved d) × Held g ws lent m' ps' run d
-Made g ws lent o m ps m' ps' (Blocked k) = (o ≡ blocked k) × (m' ≡ m) × (ps' ≡ ps)
+Made g ws lent o m ps m' ps' (Ok run) = (d : Config) × (o ≡ moved d) × Held g ws lent m' ps' run d
+Made g ws lent o m ps m' ps' (Err r) = (o ≡ blocked (refusal_number r)) × (m' ≡ m) × (ps' ≡ ps)
+
+-- what moves lead to: the run after them, or why none is made any more
+abbrev pub Stage : Type 0
+Stage = Result Run Halt
+
+-- a move never pauses
+abbrev pub halting : Step → Stage
+halting (Ok run) = Ok run
+halting (Err r) = Err (Refused r)
+
+-- why no move is made any more, by its number: 0 is a pause
+abbrev pub halt_number : Halt → ℕ
+halt_number Pause = 0
+halt_number (Refused r) = refusal_number r
 
 -- whatever configuration is held, the step is the machine's
 abbrev pub Answers : List ℕ → List ℤ → List ℕ → Run → Coming → List ℤ → List ℕ → Step → Type 0

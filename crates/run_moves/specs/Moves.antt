@@ -1,5 +1,5 @@
 -- What each move leaves in memory: the new configuration is held, or the number refuses it and nothing changes.
-use Rattle.std.specs.Prelude.{ℕ, suc, ◌+◌, ◌-◌, ◌*◌, ◌≤◌, ◌<◌, ◌≡◌, refl, Bool, true, false, not, cond, List, [], ◌∷◌, ◌++◌, map, length, get_or, set, replicate, eqb, ℤ}
+use Rattle.std.specs.Prelude.{ℕ, suc, ◌+◌, ◌-◌, ◌*◌, ◌≤◌, ◌<◌, ◌≡◌, refl, Bool, true, false, not, cond, List, [], ◌∷◌, ◌++◌, map, length, get_or, set, replicate, eqb, ℤ, Ok, Err}
 use Rattle.std.proofs.Common.{arith, sym, ap, ◌∙◌, subst, true≢false, eqb→eq, lt-ltb, le-ltb, eq-eqb}
 use Rattle.meaning.specs.Base.{In, all}
 use Rattle.meaning.specs.Grammar.{Grammar, Symbol, Rule, Condition, production_at, whole}
@@ -17,7 +17,7 @@ use Rattle.run_registers.specs.Laid.{laid_stack, laid_write, laid_add}
 use Rattle.run_registers.specs.Moves.{test_ready, test_done, evaluate_ready, evaluate_done}
 use Rattle.run_registers.specs.Read.{rules_from, rules_read, conditions_from, Tests, Evaluates, values_fit, after_rules, Evaluated}
 use Rattle.run_moves.specs.declared.Run.{Run}
-use Rattle.run_moves.specs.declared.Step.TheVariants.{Moved, Blocked}
+use Rattle.refusals.specs.declared.Refusal.TheVariants.{ConditionFalse, ValueOutside, NoRegister}
 use Rattle.run_moves.specs.Laid.{LaidIn, laid_size, laid_read}
 use Rattle.run_moves.specs.Ahead.{Ahead, ahead_code, ahead_next, ahead_over, place_same, place_tested, place_passed_lem, place_pending, pending_word, no_pending_word}
 use Rattle.run_moves.specs.Marked.{fresh}
@@ -99,7 +99,7 @@ module _ {g : Grammar} {ws : List ℕ} {lent : Lent} {m : List ℤ} {ps : List �
   -- ---- add
 
   pub made_add : (look : Coming) → IsAhead g look → run.moves < moves_limit → head_operation (get_or ws run.at 0) ≡ add_operation → run.registers + head_operand (get_or ws run.at 0) ≤ length m
-      → Made g ws lent (next g lent look c) m ps m ps (Moved (record { tokens = run.tokens; moves = run.moves + 1; registers = run.registers + head_operand (get_or ws run.at 0); places = run.places; at = run.at + 1 }))
+      → Made g ws lent (next g lent look c) m ps m ps (Ok (record { tokens = run.tokens; moves = run.moves + 1; registers = run.registers + head_operand (get_or ws run.at 0); places = run.places; at = run.at + 1 }))
   made_add look ok limit o fits =
       let n : ℕ = head_operand (get_or ws run.at 0) in
       let x = hand_add h o in
@@ -114,7 +114,7 @@ module _ {g : Grammar} {ws : List ℕ} {lent : Lent} {m : List ℤ} {ps : List �
             (laid_add h.registers n (omega arith)) (rw (← (place_same g x.production (add n) x.rest refl refl x.ahead.ordered)) (top_laid x)),
       )
 
-  pub blocked_add : (look : Coming) → run.moves < moves_limit → head_operation (get_or ws run.at 0) ≡ add_operation → length m < run.registers + head_operand (get_or ws run.at 0) → Made g ws lent (next g lent look c) m ps m ps (Blocked 31)
+  pub blocked_add : (look : Coming) → run.moves < moves_limit → head_operation (get_or ws run.at 0) ≡ add_operation → length m < run.registers + head_operand (get_or ws run.at 0) → Made g ws lent (next g lent look c) m ps m ps (Err NoRegister)
   blocked_add look limit o fits =
       let n : ℕ = head_operand (get_or ws run.at 0) in
       let x = hand_add h o in
@@ -156,7 +156,7 @@ module _ {g : Grammar} {ws : List ℕ} {lent : Lent} {m : List ℤ} {ps : List �
       }
 
   pub made_evaluate : (look : Coming) → IsAhead g look → run.moves < moves_limit → head_operation (get_or ws run.at 0) ≡ evaluate_operation → (m' : List ℤ) → Evaluated rules_here run.registers m true m'
-      → Made g ws lent (next g lent look c) m ps m' ps (Moved (record { tokens = run.tokens; moves = run.moves + 1; registers = run.registers; places = run.places; at = run.at + 1 + 2 * operand_here }))
+      → Made g ws lent (next g lent look c) m ps m' ps (Ok (record { tokens = run.tokens; moves = run.moves + 1; registers = run.registers; places = run.places; at = run.at + 1 + 2 * operand_here }))
   made_evaluate look ok limit o m' v =
       let r = rules_here_lem o in
       let x = r.hand in
@@ -169,7 +169,7 @@ module _ {g : Grammar} {ws : List ℕ} {lent : Lent} {m : List ℤ} {ps : List �
             (rw (← (place_same g x.production (evaluate r.rules) x.rest refl refl x.ahead.ordered)) (top_laid x)),
       )
 
-  pub blocked_evaluate : (look : Coming) → run.moves < moves_limit → head_operation (get_or ws run.at 0) ≡ evaluate_operation → (m' : List ℤ) → Evaluated rules_here run.registers m false m' → Made g ws lent (next g lent look c) m ps m' ps (Blocked 23)
+  pub blocked_evaluate : (look : Coming) → run.moves < moves_limit → head_operation (get_or ws run.at 0) ≡ evaluate_operation → (m' : List ℤ) → Evaluated rules_here run.registers m false m' → Made g ws lent (next g lent look c) m ps m' ps (Err ValueOutside)
   blocked_evaluate look limit o m' v =
       let r = rules_here_lem o in
       let x = r.hand in
@@ -184,12 +184,12 @@ module _ {g : Grammar} {ws : List ℕ} {lent : Lent} {m : List ℤ} {ps : List �
     here : (b : Bool) → EvaluatedOne b → Evaluated rules_here run.registers m b m'
     here b v = subst (λ n. Evaluated (rules_from ws (run.at + 1) n) run.registers m b m') (sym one) v
 
-    pub made_single : IsAhead g look → EvaluatedOne true → Made g ws lent (next g lent look c) m ps m' ps (Moved (after_move run (run.at + 3)))
+    pub made_single : IsAhead g look → EvaluatedOne true → Made g ws lent (next g lent look c) m ps m' ps (Ok (after_move run (run.at + 3)))
     made_single ok v =
         let a : run.at + 1 + 2 * operand_here ≡ run.at + 3 = omega arith in
-        subst (λ k. Made g ws lent (next g lent look c) m ps m' ps (Moved (after_move run k))) a (made_evaluate look ok limit o m' (here true v))
+        subst (λ k. Made g ws lent (next g lent look c) m ps m' ps (Ok (after_move run k))) a (made_evaluate look ok limit o m' (here true v))
 
-    pub blocked_single : EvaluatedOne false → Made g ws lent (next g lent look c) m ps m' ps (Blocked 23)
+    pub blocked_single : EvaluatedOne false → Made g ws lent (next g lent look c) m ps m' ps (Err ValueOutside)
     blocked_single v = blocked_evaluate look limit o m' (here false v)
 
   -- ---- test
@@ -218,7 +218,7 @@ module _ {g : Grammar} {ws : List ℕ} {lent : Lent} {m : List ℤ} {ps : List �
       }
 
   pub made_test : (look : Coming) → IsAhead g look → run.moves < moves_limit → head_operation (get_or ws run.at 0) ≡ test_operation → true ≡ all (holds (read_register (stack run.registers m))) conditions_here
-      → Made g ws lent (next g lent look c) m ps m (count_if true run.places ps) (Moved (record { tokens = run.tokens; moves = run.moves + 1; registers = run.registers; places = run.places; at = run.at + 1 + 3 * operand_here }))
+      → Made g ws lent (next g lent look c) m ps m (count_if true run.places ps) (Ok (record { tokens = run.tokens; moves = run.moves + 1; registers = run.registers; places = run.places; at = run.at + 1 + 3 * operand_here }))
   made_test look ok limit o v =
       let r = conditions_here_lem o in
       let x = r.hand in
@@ -229,7 +229,7 @@ module _ {g : Grammar} {ws : List ℕ} {lent : Lent} {m : List ℤ} {ps : List �
             (omega (arith, r.count, conditions_length r.conditions)) h.tokens (omega arith) h.registers (counted (place_of g (frame x.production x.rest)) (place_tested g x.production r.conditions x.rest x.ahead.ordered (omega (arith, x.ahead.few))) (top_laid x)),
       )
 
-  pub blocked_test : (look : Coming) → run.moves < moves_limit → head_operation (get_or ws run.at 0) ≡ test_operation → false ≡ all (holds (read_register (stack run.registers m))) conditions_here → Made g ws lent (next g lent look c) m ps m ps (Blocked 22)
+  pub blocked_test : (look : Coming) → run.moves < moves_limit → head_operation (get_or ws run.at 0) ≡ test_operation → false ≡ all (holds (read_register (stack run.registers m))) conditions_here → Made g ws lent (next g lent look c) m ps m ps (Err ConditionFalse)
   blocked_test look limit o v =
       let r = conditions_here_lem o in
       let x = r.hand in

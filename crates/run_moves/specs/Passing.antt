@@ -1,5 +1,5 @@
 -- Moves that pass a symbol: the read of a token, and the remove, after which the place below goes on.
-use Rattle.std.specs.Prelude.{ℕ, suc, ◌+◌, ◌-◌, ◌*◌, ◌≤◌, ◌<◌, ◌≡◌, refl, ◌⊎◌, Bool, true, false, not, cond, List, [], ◌∷◌, ◌++◌, map, length, get_or, set, drop, T, eqb, ltb, ℤ, pos}
+use Rattle.std.specs.Prelude.{ℕ, suc, ◌+◌, ◌-◌, ◌*◌, ◌≤◌, ◌<◌, ◌≡◌, refl, ◌⊎◌, Bool, true, false, not, cond, List, [], ◌∷◌, ◌++◌, map, length, get_or, set, drop, T, eqb, ltb, ℤ, pos, Ok, Err}
 use Rattle.std.proofs.Common.{arith, sym, ap, ◌∙◌, subst, inl, inr, true≢false, eqb→eq, ltb→lt, lt→ltb, eq-eqb, ne_eqb, lt-ltb, le-ltb}
 use Rattle.std.proofs.Math.Dec.{eqb_refl}
 use Rattle.meaning.specs.Sets.{end_number}
@@ -28,7 +28,9 @@ use Rattle.theory_program.specs.Resuming.{place_address}
 use Rattle.run_registers.specs.Stack.{stack}
 use Rattle.run_registers.specs.Laid.{laid_push, laid_remove}
 use Rattle.run_moves.specs.declared.Run.{Run}
-use Rattle.run_moves.specs.declared.Step.TheVariants.{Moved, Blocked}
+use Rattle.refusals.specs.declared.Refusal.{Refusal}
+use Rattle.refusals.specs.declared.Refusal.TheVariants.{NoRegister}
+use Rattle.refusals.specs.Numbers.{refusal_number}
 use Rattle.run_moves.specs.Laid.{LaidIn, laid_size, laid_read, laid_pop}
 use Rattle.run_moves.specs.Ahead.{Ahead, ahead_next, ahead_place}
 use Rattle.run_moves.specs.Held.{Held, Made, Hand, top_frame, shaped_over, hand_terminal, hand_remove, hand_proper, bounds, next_in_lem, next_is}
@@ -115,7 +117,7 @@ module _ {g : Grammar} {ws : List ℕ} {lent : Lent} {m : List ℤ} {ps : List �
 
   made_leaf : (u : ℕ) (v : ℤ) → IsAhead g (coming_of u v) → run.moves < moves_limit → head_operation (get_or ws run.at 0) ≡ read_operation → token_here ≡ u → (vs : List ℤ) → carried (not (is_mark v)) v ≡ vs → length c.registers + length vs ≤ lent.max_registers
       → (m' : List ℤ) (r : ℕ) → LaidIn mark lent.max_registers m' r (vs ++ c.registers)
-      → Made g ws lent (next g lent (coming_of u v) c) m ps m' (passed ws (run.at + 1) run.places ps) (Moved (record { tokens = run.tokens + 1; moves = run.moves + 1; registers = r; places = run.places; at = run.at + 1 }))
+      → Made g ws lent (next g lent (coming_of u v) c) m ps m' (passed ws (run.at + 1) run.places ps) (Ok (record { tokens = run.tokens + 1; moves = run.moves + 1; registers = r; places = run.places; at = run.at + 1 }))
   made_leaf u v ok limit o e vs q room m' r l =
       let x = hand_terminal h o in
       let ps' : List ℕ = passed ws (run.at + 1) run.places ps in
@@ -131,17 +133,17 @@ module _ {g : Grammar} {ws : List ℕ} {lent : Lent} {m : List ℤ} {ps : List �
       )
 
   pub made_read : (u : ℕ) (v : ℤ) → IsAhead g (coming_of u v) → run.moves < moves_limit → head_operation (get_or ws run.at 0) ≡ read_operation → token_here ≡ u → is_mark v ≡ true
-      → Made g ws lent (next g lent (coming_of u v) c) m ps m (passed ws (run.at + 1) run.places ps) (Moved (record { tokens = run.tokens + 1; moves = run.moves + 1; registers = run.registers; places = run.places; at = run.at + 1 }))
+      → Made g ws lent (next g lent (coming_of u v) c) m ps m (passed ws (run.at + 1) run.places ps) (Ok (record { tokens = run.tokens + 1; moves = run.moves + 1; registers = run.registers; places = run.places; at = run.at + 1 }))
   made_read u v ok limit o e q = made_leaf u v ok limit o e [] (ap (λ b. carried (not b) v) q) (omega (arith, h.registers.height, h.registers.room)) m run.registers h.registers
 
   pub made_value : (u : ℕ) (v : ℤ) → IsAhead g (coming_of u v) → run.moves < moves_limit → head_operation (get_or ws run.at 0) ≡ read_operation → token_here ≡ u → is_mark v ≡ false → run.registers < length m
-      → Made g ws lent (next g lent (coming_of u v) c) m ps (set m run.registers v) (passed ws (run.at + 1) run.places ps) (Moved (record { tokens = run.tokens + 1; moves = run.moves + 1; registers = run.registers + 1; places = run.places; at = run.at + 1 }))
+      → Made g ws lent (next g lent (coming_of u v) c) m ps (set m run.registers v) (passed ws (run.at + 1) run.places ps) (Ok (record { tokens = run.tokens + 1; moves = run.moves + 1; registers = run.registers + 1; places = run.places; at = run.at + 1 }))
   made_value u v ok limit o e q l =
       let k : run.registers < lent.max_registers = omega (arith, laid_size h.registers) in
       made_leaf u v ok limit o e (v ∷ []) (ap (λ b. carried (not b) v) q) (omega (arith, h.registers.height)) (set m run.registers v) (run.registers + 1) (laid_push h.registers v k)
 
   -- 02 (e): "31 can occur there, after 21"
-  pub blocked_full : (u : ℕ) (v : ℤ) → run.moves < moves_limit → head_operation (get_or ws run.at 0) ≡ read_operation → token_here ≡ u → is_mark v ≡ false → length m ≤ run.registers → Made g ws lent (next g lent (coming_of u v) c) m ps m ps (Blocked 31)
+  pub blocked_full : (u : ℕ) (v : ℤ) → run.moves < moves_limit → head_operation (get_or ws run.at 0) ≡ read_operation → token_here ≡ u → is_mark v ≡ false → length m ≤ run.registers → Made g ws lent (next g lent (coming_of u v) c) m ps m ps (Err NoRegister)
   blocked_full u v limit o e q l =
       let x = hand_terminal h o in
       let d = after h x (v ∷ c.registers) (suc c.tokens) in
@@ -154,10 +156,10 @@ module _ {g : Grammar} {ws : List ℕ} {lent : Lent} {m : List ℤ} {ps : List �
         refl,
       )
 
-  pub blocked_read : (u : ℕ) (v : ℤ) → run.moves < moves_limit → head_operation (get_or ws run.at 0) ≡ read_operation → (token_here ≡ u → ⊥) → Made g ws lent (next g lent (coming_of u v) c) m ps m ps (Blocked (unexpected (look_of u)))
-  blocked_read u v limit o z =
+  pub blocked_read : (u : ℕ) (v : ℤ) → run.moves < moves_limit → head_operation (get_or ws run.at 0) ≡ read_operation → (token_here ≡ u → ⊥) → (r : Refusal) → refusal_number r ≡ unexpected (look_of u) → Made g ws lent (next g lent (coming_of u v) c) m ps m ps (Err r)
+  blocked_read u v limit o z r e =
       let x = hand_terminal h o in
-      (next_is h (coming_of u v) x limit ∙ go x (eqb u end_number), refl, refl)
+      (next_is h (coming_of u v) x limit ∙ (go x (eqb u end_number) ∙ ap blocked (sym e)), refl, refl)
     where
       go : (x : Hand g ws run.at c (expect (terminal token_here))) (b : Bool) → accept lent c (frame x.production (expect (terminal token_here) ∷ x.rest)) x.below token_here (coming_if b u v) ≡ blocked (unexpected (look_if b u))
       go x true = refl
@@ -344,7 +346,7 @@ module _ {g : Grammar} {ws : List ℕ} {lent : Lent} {m : List ℤ} {ps : List �
 
     pub made_remove : (look : Coming) → IsAhead g look → run.moves < moves_limit → (m' : List ℤ) (ps' : List ℕ) (a : ℕ) → a ≡ place_address g place
         → m' ≡ lay run.registers mark (drop removed_here (stack run.registers m)) m → ps' ≡ passed ws (a + 1) (run.places - 1) (set ps (run.places - 1) 0)
-        → Made g ws lent (next g lent look c) m ps m' ps' (Moved (record { tokens = run.tokens; moves = run.moves + 1; registers = run.registers - removed_here; places = run.places - 1; at = a + 1 }))
+        → Made g ws lent (next g lent look c) m ps m' ps' (Ok (record { tokens = run.tokens; moves = run.moves + 1; registers = run.registers - removed_here; places = run.places - 1; at = a + 1 }))
     made_remove look ok limit m' ps' a is_at is_registers is_places =
         let y = r.parent in
         let mv = h.moves in

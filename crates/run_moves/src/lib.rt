@@ -7,14 +7,17 @@ ghost use Rattle.meaning.specs.Machine as Machine;
 ghost use Rattle.meaning.specs.Rules.{WellFormed};
 ghost use Rattle.theory_program.specs.Addresses.{Begins};
 ghost use Rattle.theory_program.specs.Resuming.{place_address};
+ghost use Rattle.refusals.specs.Numbers.{refusal_number};
+ghost use Rattle.run_moves.specs.declared.Halt.TheVariants.{Refused};
 ghost use Rattle.run_moves.specs.Held.{after_move};
 ghost use Rattle.run_moves.specs.Moves.{count_if, passed};
 ghost use Rattle.run_moves.specs.Passing.{look_of, Waiting, Resumes};
 
 use limits::{END, WHOLE};
+use refusals::Refusal;
 
 // A run: what was counted, the heights of both stacks, and the address of the next instruction of the top place's production.
-#[derive(Clone, Copy)]
+#[derive(Clone, Copy, Debug, PartialEq, Eq)]
 pub struct Run {
     pub tokens: u64,
     pub moves: u64,
@@ -23,11 +26,19 @@ pub struct Run {
     pub at: usize,
 }
 
-// What a move leads to: the run after it, or the number that refuses it.
-#[derive(Clone, Copy)]
-pub enum Step {
-    Moved(Run),
-    Blocked(u32),
+// Why no move is made any more: the machine stops for want of what comes next, or what comes or the move at hand is refused.
+#[derive(Clone, Copy, Debug, PartialEq, Eq)]
+pub enum Halt {
+    Pause,
+    Refused(Refusal),
+}
+
+impl From<Refusal> for Halt {
+    ghost from_gives = { λ refusal halt. halt ≡ Refused refusal };
+
+    fn from(refusal: Refusal) -> Halt {
+        Halt::Refused(refusal)
+    }
 }
 
 // The run after one move more, whose next instruction stands at `at`.
@@ -36,11 +47,9 @@ pub fn counted(run: Run, at: usize) -> Run
     ensures { result ≡ after_move run at }
 {
     Run {
-        tokens: run.tokens,
         moves: run.moves + 1,
-        registers: run.registers,
-        places: run.places,
         at,
+        ..run
     }
 }
 
@@ -54,14 +63,15 @@ pub fn word_at(words: &[u32], at: usize) -> usize
     words[at] as usize
 }
 
-// The number that refuses what comes next.
-pub fn unexpected(look: usize) -> u32
-    ensures { result ≡ Machine.unexpected (look_of look) }
+// What refuses what comes next.
+pub fn unexpected(look: usize) -> Refusal
+    ensures { refusal_number result ≡ Machine.unexpected (look_of look) }
 {
     if look == END {
-        return 24;
+        Refusal::OverTooEarly
+    } else {
+        Refusal::UnexpectedToken
     }
-    21
 }
 
 // The top place has passed one symbol more.
@@ -70,7 +80,7 @@ pub fn count_symbol(places: &mut [u32], height: usize)
     ensures { places.new ≡ count_if true height places.old }
 {
     let top = height - 1;
-    places[top] = places[top] + 1;
+    places[top] += 1;
 }
 
 // After a read or a remove: the symbol is passed now, unless a test follows.
@@ -78,10 +88,9 @@ pub fn pass_symbol(places: &mut [u32], height: usize, program: &[u32], at: usize
     requires { ((1 ≤ height) × (height ≤ length places.old) × (get_or places.old (height - 1) 0 < 65536)) × (at < length program.now) }
     ensures { places.new ≡ passed program.now at height places.old }
 {
-    if program_parts::operation(word_at(program, at)) == operations::TEST {
-        return;
+    if program_parts::operation(word_at(program, at)) != operations::TEST {
+        count_symbol(places, height);
     }
-    count_symbol(places, height);
 }
 
 // The address from which a place goes on: that of the expect at which it waits; the whole segment's code begins at 0.

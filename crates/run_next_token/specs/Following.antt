@@ -1,5 +1,5 @@
 -- Reads that follow one another, of tokens that bring no value, counted all at once: the run and the places after them.
-use Rattle.std.specs.Prelude.{ℕ, zero, suc, ◌+◌, ◌-◌, ◌≤◌, ◌<◌, ◌≡◌, refl, Bool, true, false, not, List, length, get_or, set, eqb, ℤ}
+use Rattle.std.specs.Prelude.{ℕ, zero, suc, ◌+◌, ◌-◌, ◌≤◌, ◌<◌, ◌≡◌, refl, Bool, true, false, not, List, length, get_or, set, eqb, ℤ, Ok}
 use Rattle.std.proofs.Common.{arith, sym, ap, ap₂, ◌∙◌, subst, subst₂, length-set, set-set, get_or-set_same}
 use Rattle.std.proofs.lemmas.List.{set-get_or}
 use Rattle.meaning.specs.Machine.{moves_limit}
@@ -8,7 +8,6 @@ use Rattle.meaning.specs.Program.{read_operation, test_operation}
 use Rattle.theory_program.specs.Parts.{head_operation}
 use Rattle.run_looking.specs.Judging.{judged_of}
 use Rattle.run_moves.specs.declared.Run.{Run}
-use Rattle.run_moves.specs.declared.Step.TheVariants.{Moved}
 use Rattle.run_moves.specs.Held.{bounds}
 use Rattle.run_moves.specs.Moves.{count_if, passed}
 use Rattle.run_moves.specs.Passing.{made_read}
@@ -87,7 +86,7 @@ module _ (bound most : ℕ) (ws us : List ℕ) (i : ℕ) (run : Run) where
       let same : run ≡ after_reads run 0 = same_run run (omega arith) (omega arith) (omega arith) in
       (subst (λ x. Reaches bound most ws us vs i rs ps run rs ps x) same reaches_none, subst (Running ws rs ps) same r)
 
-  module _ (n : ℕ) (j : 1 ≡ judged_of bound most us (i + n) (run.tokens + n)) (small : get_or us (i + n) 0 < 64) (b : is_plain_read ws (run.at + n) (get_or us (i + n) 0) ≡ true) (limit : run.moves + n < moves_limit) where
+  module _ (n : ℕ) (j : Ok tt ≡ judged_of bound most us (i + n) (run.tokens + n)) (small : get_or us (i + n) 0 < 64) (b : is_plain_read ws (run.at + n) (get_or us (i + n) 0) ≡ true) (limit : run.moves + n < moves_limit) where
     abbrev here : Run
     here = after_reads run n
 
@@ -103,7 +102,7 @@ module _ (bound most : ℕ) (ws us : List ℕ) (i : ℕ) (run : Run) where
         let plain = plain_from ws here (get_or us (i + n) 0) b (λ z. omega (arith, z)) in
         let next : Run = record { tokens = run.tokens + n + 1; moves = run.moves + n + 1; registers = run.registers; places = run.places; at = run.at + n + 1 } in
         let qs : List ℕ = passed ws (run.at + n + 1) run.places ps' in
-        let made : Turned bound most ws us vs (i + n) rs ps' here rs qs (Moved next) = turned_plain bound most ws us vs rs ps' here (i + n) even j small plain (λ value m g lent d h ok. made_read h _ value ok limit on_word refl m) in
+        let made : Turned bound most ws us vs (i + n) rs ps' here rs qs (Ok next) = turned_plain bound most ws us vs rs ps' here (i + n) even j small plain (λ value m g lent d h ok. made_read h _ value ok limit on_word refl m) in
         let at : i + n ≡ i + (here.tokens - run.tokens) = omega arith in
         let places : qs ≡ passed_by ws run (suc n) ps = ap (passed ws (run.at + n + 1) run.places) (counted_all ws run n ps fits on_word) ∙ ap (λ a. passed ws a run.places (count_by n run.places ps)) (omega arith) in
         let same : next ≡ after_reads run (suc n) = same_run next (omega arith) (omega arith) (omega arith) in

@@ -1,5 +1,5 @@
 -- Some configuration is held, and what the operation's number says of the move at hand.
-use Rattle.std.specs.Prelude.{ℕ, ◌≤◌, ◌≡◌, refl, Bool, false, ◌&&◌, cond, List, [], ◌∷◌, get_or, eqb, ℤ}
+use Rattle.std.specs.Prelude.{ℕ, ◌≤◌, ◌≡◌, refl, Bool, false, ◌&&◌, cond, List, [], ◌∷◌, get_or, eqb, ℤ, Err}
 use Rattle.std.proofs.Common.{arith, sym, ap, ◌∙◌, le-leb}
 use Rattle.std.proofs.Math.Bool.{and-false}
 use Rattle.meaning.specs.Base.{is_empty}
@@ -12,7 +12,7 @@ use Rattle.theory_program.specs.Parts.{head_operation}
 use Rattle.theory_program.specs.Code.{operation, low_operation}
 use Rattle.run_looking.specs.Judging.{looks_ahead}
 use Rattle.run_moves.specs.declared.Run.{Run}
-use Rattle.run_moves.specs.declared.Step.TheVariants.{Blocked}
+use Rattle.refusals.specs.declared.Refusal.TheVariants.{LimitReached}
 use Rattle.run_moves.specs.Held.{Held, Answers, AtHand, some, nothing, at_hand}
 
 -- some configuration is held
@@ -91,5 +91,5 @@ module _ {g : Grammar} {ws : List ℕ} {lent : Lent} {m : List ℤ} {ps : List �
       go (nothing below y w l) = absurd (z (omega arith))
 
 -- for whatever comes
-pub limit_answers : {ws : List ℕ} {m : List ℤ} {ps : List ℕ} {run : Run} → (head_operation (get_or ws run.at 0) ≡ nothing_operation → ⊥) → run.moves ≡ moves_limit → (look : Coming) → Answers ws m ps run look m ps (Blocked 35)
+pub limit_answers : {ws : List ℕ} {m : List ℤ} {ps : List ℕ} {run : Run} → (head_operation (get_or ws run.at 0) ≡ nothing_operation → ⊥) → run.moves ≡ moves_limit → (look : Coming) → Answers ws m ps run look m ps (Err LimitReached)
 limit_answers z e look g lent c h ok = (blocked_limit h look z e, refl, refl)

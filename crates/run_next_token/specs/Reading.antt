@@ -1,5 +1,5 @@
 -- Moves one after the other, and reads that follow one another, of tokens that bring no value: when one is at hand, and what they lead to.
-use Rattle.std.specs.Prelude.{ℕ, ◌+◌, ◌-◌, ◌≤◌, ◌<◌, ◌≡◌, refl, Bool, true, false, ◌&&◌, not, List, length, get_or, drop, T, eqb, ℤ, pos}
+use Rattle.std.specs.Prelude.{ℕ, ◌+◌, ◌-◌, ◌≤◌, ◌<◌, ◌≡◌, refl, Bool, true, false, ◌&&◌, not, List, length, get_or, drop, T, eqb, ℤ, pos, Ok}
 use Rattle.std.proofs.Common.{arith, sym, ap, ◌∙◌, subst, eqb→eq, eq-eqb, ne_eqb}
 use Rattle.std.specs.Float.Ieee.Bits.{is_false}
 use Rattle.meaning.specs.Sets.{end_number}
@@ -16,7 +16,6 @@ use Rattle.theory_program.specs.Addresses.{Begins}
 use Rattle.theory_program.specs.Records.{carrier_word}
 use Rattle.run_looking.specs.Judging.{looks_ahead, judged_of, carries_at, value_none}
 use Rattle.run_moves.specs.declared.Run.{Run}
-use Rattle.run_moves.specs.declared.Step.TheVariants.{Moved}
 use Rattle.run_moves.specs.Held.{Held, Made, Answers}
 use Rattle.run_moves.specs.Passing.{coming_of}
 use Rattle.run_next_token.specs.Operations.{Running}
@@ -37,13 +36,13 @@ module _ {bound most : ℕ} {ws us : List ℕ} {vs : List ℤ} {i : ℕ} {m : Li
       (d, h, omega arith, omega arith, subst (λ j. Left bound most us vs g lent j d o) same left)
 
   module _ {m' : List ℤ} {ps' : List ℕ} {run' : Run} where
-    pub turned_reaches : Turned bound most ws us vs i m ps run m' ps' (Moved run') → Reaches bound most ws us vs i m ps run m' ps' run'
+    pub turned_reaches : Turned bound most ws us vs i m ps run m' ps' (Ok run') → Reaches bound most ws us vs i m ps run m' ps' run'
     turned_reaches a g lent d o h left =
         let s = a g lent d o h left in
         (s.0, s.1, omega (arith, s.2), s.3, s.4)
 
     -- where the token at hand is taken: what is counted, and that some configuration is held
-    pub turned_after : 1 ≡ judged_of bound most us i run.tokens → (r : Running ws m ps run) → Turned bound most ws us vs i m ps run m' ps' (Moved run') → (run.moves < run'.moves) × (run.tokens ≤ run'.tokens) × Running ws m' ps' run'
+    pub turned_after : Ok tt ≡ judged_of bound most us i run.tokens → (r : Running ws m ps run) → Turned bound most ws us vs i m ps run m' ps' (Ok run') → (run.moves < run'.moves) × (run.tokens ≤ run'.tokens) × Running ws m' ps' run'
     turned_after j r a =
         let rest = take_looks bound most r.grammar r.lent (drop i (tokens_from us vs)) r.config in
         let s = a r.grammar r.lent r.config rest r.held (ahead (j ∙ ap (judged_of bound most us i) r.held.tokens) refl) in
@@ -57,7 +56,7 @@ module _ {bound most : ℕ} {ws us : List ℕ} {vs : List ℤ} {i : ℕ} {m : Li
           let same : j + (run''.tokens - run'.tokens) ≡ i + (run''.tokens - run.tokens) = omega (arith, e, s.3, t.3) in
           (t.0, t.1, omega (arith, s.2, t.2), omega (arith, s.3, t.3), subst (λ k. Left bound most us vs g lent k t.0 o) same t.4)
 
-      pub turned_then : Turned bound most ws us vs i m ps run m' ps' (Moved run') → Turned bound most ws us vs i m ps run m'' ps'' (Moved run'')
+      pub turned_then : Turned bound most ws us vs i m ps run m' ps' (Ok run') → Turned bound most ws us vs i m ps run m'' ps'' (Ok run'')
       turned_then a g lent d o h left =
           let s = a g lent d o h left in
           let t = b g lent s.0 o s.1 (subst (λ k. Left bound most us vs g lent k s.0 o) (sym e) s.4) in
@@ -102,24 +101,24 @@ same_plain {g} {ws} b u v small none = go (eqb u end_number)
     go true = refl
     go false = ap (λ c. comes (record { kind = u; values = carried c (pos 0) })) off ∙ sym (ap (λ c. comes (record { kind = u; values = carried c v })) off)
 
-module _ (bound most : ℕ) (ws us : List ℕ) (vs m : List ℤ) (ps : List ℕ) (run : Run) (i : ℕ) (even : length us ≡ length vs) (j : 1 ≡ judged_of bound most us i run.tokens) (small : get_or us i 0 < 64) (p : can_read_plain ws run (get_or us i 0) ≡ true) where
-  pub turned_plain : {ps' : List ℕ} {run' : Run} → ((value : ℤ) → is_mark value ≡ true → Answers ws m ps run (coming_of (head_operand (get_or ws run.at 0)) value) m ps' (Moved run')) → Turned bound most ws us vs i m ps run m ps' (Moved run')
+module _ (bound most : ℕ) (ws us : List ℕ) (vs m : List ℤ) (ps : List ℕ) (run : Run) (i : ℕ) (even : length us ≡ length vs) (j : Ok tt ≡ judged_of bound most us i run.tokens) (small : get_or us i 0 < 64) (p : can_read_plain ws run (get_or us i 0) ≡ true) where
+  pub turned_plain : {ps' : List ℕ} {run' : Run} → ((value : ℤ) → is_mark value ≡ true → Answers ws m ps run (coming_of (head_operand (get_or ws run.at 0)) value) m ps' (Ok run')) → Turned bound most ws us vs i m ps run m ps' (Ok run')
   turned_plain {ps'} {run'} a =
       let u = get_or us i 0 in
       let k = plain_of ws run u p in
       let o : head_operation (get_or ws run.at 0) ≡ read_operation = omega (arith, k.0) in
       let n : head_operand (get_or ws run.at 0) ≡ u = omega (arith, k.0) in
-      turned_look bound most ws us vs m ps run i even j m ps' (Moved run') (ap looks_ahead o) (λ z. omega (arith, o, z))
+      turned_look bound most ws us vs m ps run i even j m ps' (Ok run') (ap looks_ahead o) (λ z. omega (arith, o, z))
       (λ g lent d h.
       let w = value_none ws u (pos 0) k.1 in
       let same : coming_of (head_operand (get_or ws run.at 0)) mark ≡ comes_to g u (pos 0) = ap (λ x. coming_of x mark) n ∙ (ap (coming_of u) w ∙ comes_is h.begins u (pos 0) small tt) in
       let ok = subst (IsAhead g) (sym same) (comes_ahead h.begins u (pos 0) small tt) in
-      subst (λ l. Made g ws lent (next g lent l d) m ps m ps' (Moved run')) (same ∙ same_plain h.begins u (get_or vs i (pos 0)) small k.1) (a mark refl g lent d h ok))
+      subst (λ l. Made g ws lent (next g lent l d) m ps m ps' (Ok run')) (same ∙ same_plain h.begins u (get_or vs i (pos 0)) small k.1) (a mark refl g lent d h ok))
 
 -- the read of the token at hand, u, which is taken, or nothing
 abbrev pub ReadsOn : List ℕ → List ℕ → Run → ℕ → List ℕ → Run → Type 0
 ReadsOn ws ps run u ps' run' =
-    (bound most : ℕ) (us : List ℕ) (vs rs : List ℤ) (i : ℕ) → length us ≡ length vs → 1 ≡ judged_of bound most us i run.tokens → get_or us i 0 ≡ u → Reaches bound most ws us vs i rs ps run rs ps' run'
+    (bound most : ℕ) (us : List ℕ) (vs rs : List ℤ) (i : ℕ) → length us ≡ length vs → Ok tt ≡ judged_of bound most us i run.tokens → get_or us i 0 ≡ u → Reaches bound most ws us vs i rs ps run rs ps' run'
 
 -- reads one after the other, whatever values stand beside the tokens
 abbrev pub Reads : ℕ → ℕ → List ℕ → List ℕ → ℕ → List ℕ → Run → List ℕ → Run → Type 0

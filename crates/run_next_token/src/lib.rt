@@ -12,8 +12,9 @@ ghost use Rattle.run_next_token.specs.Reading.{is_plain_read, can_read_plain, Re
 ghost use Rattle.run_next_token.specs.Following.{count_by, Within, Follow};
 
 use limits::{END, MOVES_LIMIT};
+use refusals::Refusal;
 use run_looking::Limits;
-use run_moves::{Run, Step};
+use run_moves::{Halt, Run};
 
 const READ: u32 = operations::READ as u32;
 
@@ -25,10 +26,8 @@ fn is_plain_read(program: &[u32], at: usize, look: usize) -> bool
     ensures { result ≡ is_plain_read program.now at look }
 {
     let read = program_parts::head(READ, look as u32);
-    if run_moves::word_at(program, at) != read as usize {
-        return false;
-    }
-    !program_parts::in_set(program, program_parts::CARRIERS, look)
+    run_moves::word_at(program, at) == read as usize
+        && !program_parts::in_set(program, program_parts::CARRIERS, look)
 }
 
 // Whether the read of a token that brings no value is at hand, and a move is left for it.
@@ -36,10 +35,7 @@ pub fn can_read_plain(program: &[u32], run: Run, look: usize) -> bool
     requires { (run.at < length program.now) × (8 < length program.now) × (look < 64) }
     ensures { result ≡ can_read_plain program.now run look }
 {
-    if is_plain_read(program, run.at, look) {
-        return run.moves != MOVES_LIMIT;
-    }
-    false
+    is_plain_read(program, run.at, look) && run.moves != MOVES_LIMIT
 }
 
 // The read of the token that a predict has looked at, where it is at hand and the token brings no value.
@@ -48,9 +44,10 @@ pub fn read_on(places: &mut [u32], program: &[u32], run: Run, look: usize) -> Ru
     ensures { ReadsOn program.now places.old run look places.new result }
 {
     if can_read_plain(program, run, look) {
-        return run_read::read_plain(places, program, run);
+        run_read::read_plain(places, program, run)
+    } else {
+        run
     }
-    run
 }
 
 // The index up to which the tokens are within the limits, and so are the moves that read them: all of the list, or nothing more of it.
@@ -131,9 +128,8 @@ fn read_plain_tokens(
     Run {
         tokens: run.tokens + n as u64,
         moves: run.moves + n as u64,
-        registers: run.registers,
-        places: run.places,
         at,
+        ..run
     }
 }
 
@@ -146,43 +142,35 @@ pub fn read_next(
     kinds: &[u8],
     values: &[i32],
     limits: Limits,
-) -> Step
+) -> Result<Run, Halt>
     requires { Fed limits.bound program.now registers.old places.old run kinds.now values.now × (head_operation (get_or program.now run.at 0) ≡ read_operation) × (run.moves < Machine.moves_limit) × (limits.from ≤ run.tokens) }
     ensures { Turned limits.bound limits.most program.now kinds.now values.now (run.tokens - limits.from) registers.old places.old run registers.new places.new result }
 {
-    let k = run_looking::judged(run.tokens, kinds, limits);
-    if k != run_looking::TAKEN {
-        return Step::Blocked(k);
-    }
+    run_looking::judged(run.tokens, kinds, limits)?;
     let i = (run.tokens - limits.from) as usize;
     let look = kinds[i] as usize;
     let held = run_looking::carried(program, look, values[i]);
-    match run_read::read(registers, places, program, run, look, held) {
-        Step::Blocked(n) => Step::Blocked(n),
-        Step::Moved(next) => Step::Moved(read_plain_tokens(places, program, next, kinds, limits)),
-    }
+    let next = run_read::read(registers, places, program, run, look, held)?;
+    Ok(read_plain_tokens(places, program, next, kinds, limits))
 }
 
 // ---- what ends the moves
 
 // Where nothing is left: only the end may come.
-pub fn nothing_next(run: Run, kinds: &[u8], limits: Limits) -> Step
+pub fn nothing_next(run: Run, kinds: &[u8], limits: Limits) -> Result<Run, Halt>
     requires { limits.from ≤ run.tokens }
     ensures { Stays limits.bound limits.most kinds.now (run.tokens - limits.from) run nothing_operation result }
 {
-    let k = run_looking::judged(run.tokens, kinds, limits);
-    if k != run_looking::TAKEN {
-        return Step::Blocked(k);
-    }
+    run_looking::judged(run.tokens, kinds, limits)?;
     let i = (run.tokens - limits.from) as usize;
     if kinds[i] as usize == END {
-        return Step::Blocked(0);
+        return Err(Halt::Pause);
     }
-    Step::Blocked(21)
+    Err(Halt::Refused(Refusal::UnexpectedToken))
 }
 
 // No move is left to be made. What comes next is judged before.
-pub fn at_limit(operation: usize, run: Run, kinds: &[u8], limits: Limits) -> Step
+pub fn at_limit(operation: usize, run: Run, kinds: &[u8], limits: Limits) -> Result<Run, Halt>
     requires { (limits.from ≤ run.tokens) × (run.moves ≡ Machine.moves_limit) }
     ensures { Stays limits.bound limits.most kinds.now (run.tokens - limits.from) run operation result }
 {
@@ -190,11 +178,8 @@ pub fn at_limit(operation: usize, run: Run, kinds: &[u8], limits: Limits) -> Ste
         return nothing_next(run, kinds, limits);
     }
     if run_looking::looks_ahead(operation) {
-        let k = run_looking::judged(run.tokens, kinds, limits);
-        if k != run_looking::TAKEN {
-            return Step::Blocked(k);
-        }
-        return Step::Blocked(35);
+        run_looking::judged(run.tokens, kinds, limits)?;
+        return Err(Halt::Refused(Refusal::LimitReached));
     }
-    Step::Blocked(35)
+    Err(Halt::Refused(Refusal::LimitReached))
 }

@@ -7,7 +7,8 @@ ghost use Rattle.theory_program.specs.Parts.{head_operation};
 ghost use Rattle.run_moves.specs.Held.{ReadyForMove, Answers};
 ghost use Rattle.run_moves.specs.Passing.{coming_of};
 
-use run_moves::{Run, Step};
+use refusals::Refusal;
+use run_moves::Run;
 
 // What the instruction at hand does.
 pub fn make_move(
@@ -17,7 +18,7 @@ pub fn make_move(
     run: Run,
     look: usize,
     value: i64,
-) -> Step
+) -> Result<Run, Refusal>
     requires { ReadyForMove program.now registers.old places.old run (head_operation (get_or program.now run.at 0)) × (head_operation (get_or program.now run.at 0) ≤ remove_operation) × (look < 64) }
     ensures { Answers program.now registers.old places.old run (coming_of look value) registers.new places.new result }
 {

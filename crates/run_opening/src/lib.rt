@@ -11,6 +11,7 @@ ghost use Rattle.records.specs.Records.{handed_is};
 
 use limits::SEGMENT;
 use records::{Answer, Handed, State, not_opened};
+use refusals::Refusal;
 
 // On exactly the lent cells. 01: "At opening 31 precedes 32, no stack is written".
 fn open_lent(registers: &mut [i64], places: &mut [u32], program: &[u32]) -> Handed
@@ -19,16 +20,10 @@ fn open_lent(registers: &mut [i64], places: &mut [u32], program: &[u32]) -> Hand
 {
     let count = run_moves::word_at(program, program_parts::REGISTERS);
     if registers.len() < count {
-        return not_opened(Answer::Refused {
-            number: 31,
-            tokens: 0,
-        });
+        return not_opened(Answer::turned_back(Refusal::NoRegister));
     }
     if places.len() == 0 {
-        return not_opened(Answer::Refused {
-            number: 32,
-            tokens: 0,
-        });
+        return not_opened(Answer::turned_back(Refusal::NoPlace));
     }
     run_cells::clear_registers(registers);
     run_cells::clear_places(places);

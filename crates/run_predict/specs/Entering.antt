@@ -1,5 +1,5 @@
 -- What a predict leaves: the place of the production found by the search is pushed, or the number refuses it.
-use Rattle.std.specs.Prelude.{ℕ, zero, suc, ◌+◌, ◌-◌, ◌*◌, ◌≤◌, ◌<◌, ◌≡◌, refl, Bool, true, false, ◌&&◌, cond, List, [], ◌∷◌, map, length, get_or, set, T, eqb, ℤ}
+use Rattle.std.specs.Prelude.{ℕ, zero, suc, ◌+◌, ◌-◌, ◌*◌, ◌≤◌, ◌<◌, ◌≡◌, refl, Bool, true, false, ◌&&◌, cond, List, [], ◌∷◌, map, length, get_or, set, T, eqb, ℤ, Ok, Err}
 use Rattle.std.proofs.Common.{arith, sym, ap, ap₂, ◌∙◌, subst, inl, eqb→eq, lt-ltb, le-ltb, eq-eqb}
 use Rattle.std.proofs.lemmas.List.{length-map}
 use Rattle.meaning.specs.Limits.{productions_limit}
@@ -20,23 +20,24 @@ use Rattle.theory_program.specs.Search.{first_number, first_none, first_some, di
 use Rattle.run_registers.specs.Stack.{stack}
 use Rattle.run_registers.specs.Laid.{laid_stack, laid_push}
 use Rattle.run_moves.specs.declared.Run.{Run}
-use Rattle.run_moves.specs.declared.Step.{Step}
-use Rattle.run_moves.specs.declared.Step.TheVariants.{Moved, Blocked}
+use Rattle.refusals.specs.declared.Refusal.{Refusal}
+use Rattle.refusals.specs.declared.Refusal.TheVariants.{ConditionFalse, NoPlace}
+use Rattle.refusals.specs.Numbers.{refusal_number}
 use Rattle.run_moves.specs.Laid.{LaidIn, laid_size}
 use Rattle.run_moves.specs.Ahead.{Ahead, ahead_scheme, place_begins}
-use Rattle.run_moves.specs.Held.{Held, Made, Hand, hand_nonterminal, hand_proper, next_is}
+use Rattle.run_moves.specs.Held.{Held, Step, Made, Hand, hand_nonterminal, hand_proper, next_is}
 use Rattle.run_moves.specs.Passing.{look_of, look_number_lem, coming_of, coming_look}
 use Rattle.run_predict.specs.alternatives.Predicting.{record_of, holds_at, holds_here, at_record, at_scheme, Leads, Led}
 
 -- the tokens that are counted after a step: a predict counts none
 abbrev pub tokens_of : Run → Step → ℕ
-tokens_of run (Moved run') = run'.tokens
-tokens_of run (Blocked k) = run.tokens
+tokens_of run (Ok run') = run'.tokens
+tokens_of run (Err r) = run.tokens
 
 -- the step by whether all places are taken, and the places after it: that of production p - 1 is pushed
 abbrev pub step_by : Bool → Run → ℕ → Step
-step_by true run a = Blocked 32
-step_by false run a = Moved (record { tokens = run.tokens; moves = run.moves + 1; registers = run.registers; places = run.places + 1; at = a })
+step_by true run a = Err NoPlace
+step_by false run a = Ok (record { tokens = run.tokens; moves = run.moves + 1; registers = run.registers; places = run.places + 1; at = a })
 
 abbrev pub entered_by : Run → ℕ → ℕ → Step
 entered_by run a n = step_by (eqb run.places n) run a
@@ -155,8 +156,8 @@ module _ {g : Grammar} {ws : List ℕ} {lent : Lent} {m : List ℤ} {ps : List �
     predicts : run.moves < moves_limit → (b : Bool) → is_empty (alternatives g wanted (look_of u)) ≡ b → next g lent ahead c ≡ cond b (blocked (unexpected (look_of u))) (push g lent c choice)
     predicts limit b e = next_is h ahead hand limit ∙ ap (λ l. predict g lent c wanted l) same ∙ ap (λ z. cond z (blocked (unexpected (look_of u))) (push g lent c choice)) e
 
-    pub blocked_unexpected : run.moves < moves_limit → first ≡ 0 → Made g ws lent (next g lent ahead c) m ps m ps (Blocked (unexpected (look_of u)))
-    blocked_unexpected limit e = (predicts limit true ((directory_none g h.well_formed wanted (look_of u)).0 (sym first_is ∙ e)), refl, refl)
+    pub blocked_unexpected : run.moves < moves_limit → first ≡ 0 → (r : Refusal) → refusal_number r ≡ unexpected (look_of u) → Made g ws lent (next g lent ahead c) m ps m ps (Err r)
+    blocked_unexpected limit e r i = (predicts limit true ((directory_none g h.well_formed wanted (look_of u)).0 (sym first_is ∙ e)) ∙ ap blocked (sym i), refl, refl)
 
     module _ (limit : run.moves < moves_limit) (n : first ≡ 0 → ⊥) (p : ℕ) (is : p ≡ found g (stack run.registers m) wanted (look_of u) first) where
       chosen : p ≡ first_number choice
@@ -169,7 +170,7 @@ module _ {g : Grammar} {ws : List ℕ} {lent : Lent} {m : List ℤ} {ps : List �
           go true e = absurd (n (first_is ∙ (directory_none g h.well_formed wanted (look_of u)).1 e))
           go false e = e
 
-      pub blocked_none : p ≡ 0 → Made g ws lent (next g lent ahead c) m ps m ps (Blocked 22)
+      pub blocked_none : p ≡ 0 → Made g ws lent (next g lent ahead c) m ps m ps (Err ConditionFalse)
       blocked_none e = (pushes ∙ empty_push g lent c choice ((first_none choice).0 (sym chosen ∙ e)), refl, refl)
 
       -- the production entered
@@ -203,7 +204,7 @@ module _ {g : Grammar} {ws : List ℕ} {lent : Lent} {m : List ℤ} {ps : List �
         pub entering_inside : record_of ws p + 8 ≤ length ws
         entering_inside = rw entering.number (omega (arith, at_record h.begins h.well_formed c.registers q listed, stands_within (record_at_lem h.begins h.well_formed q listed)))
 
-        pub blocked_full : run.places ≡ length ps → Made g ws lent (next g lent ahead c) m ps m ps (Blocked 32)
+        pub blocked_full : run.places ≡ length ps → Made g ws lent (next g lent ahead c) m ps m ps (Err NoPlace)
         blocked_full e =
             let k = h.places.height in
             let z = length-map c.frames (place_of g) in
@@ -211,7 +212,7 @@ module _ {g : Grammar} {ws : List ℕ} {lent : Lent} {m : List ℤ} {ps : List �
             (entering.pushed ∙ ap (λ b. cond b (blocked 32) (step c (frame q (scheme_at g q) ∷ c.frames) c.registers)) (lt-ltb lent.max_places (suc (length c.frames)) (omega arith)), refl, refl)
 
         pub made_predict : IsAhead g ahead → run.places < length ps → (v : ℕ) → v ≡ place_at (p - 1) 0
-            → Made g ws lent (next g lent ahead c) m ps m (set ps run.places v) (Moved (record { tokens = run.tokens; moves = run.moves + 1; registers = run.registers; places = run.places + 1; at = get_or ws (record_of ws p + 6) 0 }))
+            → Made g ws lent (next g lent ahead c) m ps m (set ps run.places v) (Ok (record { tokens = run.tokens; moves = run.moves + 1; registers = run.registers; places = run.places + 1; at = get_or ws (record_of ws p + 6) 0 }))
         made_predict ok room v is_place =
             let k = h.places.height in
             let z = length-map c.frames (place_of g) in

@@ -44,10 +44,7 @@ fn passes(registers: &[i64], height: usize, program: &[u32], row: usize, look: u
     requires { (height ≤ length registers.now) × Testable program.now (stack height registers.now) row × (look < 64) }
     ensures { result ≡ holds_at program.now row look && enters_at program.now (stack height registers.now) row }
 {
-    if holds(program, row, look) {
-        return enters(registers, height, program, row);
-    }
-    false
+    holds(program, row, look) && enters(registers, height, program, row)
 }
 
 // The first production that passes, by its number plus 1, from the one that a next-word says on; 0 where none does.

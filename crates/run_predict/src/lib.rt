@@ -11,7 +11,8 @@ ghost use Rattle.run_moves.specs.Held.{ReadyForMove, Answers};
 ghost use Rattle.run_moves.specs.Passing.{look_of};
 ghost use Rattle.run_predict.specs.Entering.{tokens_of, entered_by, placed};
 
-use run_moves::{Run, Step};
+use refusals::Refusal;
+use run_moves::Run;
 
 pub mod alternatives;
 
@@ -24,18 +25,20 @@ pub fn push(places: &mut [u32], height: usize, production: usize)
 }
 
 // The place of production p - 1 is pushed; its scheme begins at `at`.
-fn enter(places: &mut [u32], run: Run, p: usize, at: usize) -> Step
+fn enter(places: &mut [u32], run: Run, p: usize, at: usize) -> Result<Run, Refusal>
     requires { (1 ≤ p) × (p ≤ productions_limit) × (run.places ≤ length places.old) × (run.moves < moves_limit) }
     ensures { (result ≡ entered_by run at (length places.old)) × (places.new ≡ placed run.places p places.old) }
 {
     let height = run.places;
     if height == places.len() {
-        return Step::Blocked(32);
+        return Err(Refusal::NoPlace);
     }
     push(places, height, p - 1);
-    let mut next = run_moves::counted(run, at);
-    next.places = height + 1;
-    Step::Moved(next)
+    let next = run_moves::counted(run, at);
+    Ok(Run {
+        places: height + 1,
+        ..next
+    })
 }
 
 // The alternative that is entered, from the one on that the directory names. 01: "22 .. when alternatives hold the token or the end but none has its entry conditions met".
@@ -46,13 +49,13 @@ pub fn search(
     run: Run,
     look: usize,
     first: usize,
-) -> Step
+) -> Result<Run, Refusal>
     requires { (ReadyForMove program.now registers.now places.old run predict_operation × (look < 64)) × ((first ≡ directory_number (get_or program.now (9 + 64 * head_operand (get_or program.now run.at 0) + look) 0)) × (first ≡ 0 → ⊥)) }
     ensures { ((ahead : Coming) → as_look ahead ≡ look_of look → Answers program.now registers.now places.old run ahead registers.now places.new result) × (tokens_of run result ≡ run.tokens) }
 {
     let p = crate::alternatives::find(registers, run.registers, program, look, first);
     if p == 0 {
-        return Step::Blocked(22);
+        return Err(Refusal::ConditionFalse);
     }
     let at = run_moves::word_at(
         program,
@@ -80,13 +83,13 @@ pub fn predict(
     program: &[u32],
     run: Run,
     look: usize,
-) -> Step
+) -> Result<Run, Refusal>
     requires { ReadyForMove program.now registers.now places.old run predict_operation × (look < 64) }
     ensures { ((ahead : Coming) → as_look ahead ≡ look_of look → Answers program.now registers.now places.old run ahead registers.now places.new result) × (tokens_of run result ≡ run.tokens) }
 {
     let first = program_parts::directory_number(entry_at(program, run, look));
     if first == 0 {
-        return Step::Blocked(run_moves::unexpected(look));
+        return Err(run_moves::unexpected(look));
     }
     search(registers, places, program, run, look, first)
 }

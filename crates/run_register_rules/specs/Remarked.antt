@@ -1,5 +1,5 @@
 -- The targets of rules, marked again.
-use Rattle.std.specs.Prelude.{ℕ, zero, suc, ◌-◌, ◌≡◌, refl, ◌⊎◌, List, [], ◌∷◌, get_or, set, ℤ}
+use Rattle.std.specs.Prelude.{ℕ, zero, suc, ◌-◌, ◌≡◌, refl, ◌⊎◌, List, [], ◌∷◌, set, ℤ}
 use Rattle.std.proofs.Common.{sym, ap, ◌∙◌, inl, inr, set-set}
 use Rattle.std.proofs.lemmas.List.{set-get_or}
 use Rattle.meaning.specs.Base.{In}

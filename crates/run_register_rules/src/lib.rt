@@ -41,16 +41,12 @@ pub fn test(registers: &[i64], height: usize, program: &[u32], at: usize, count:
     requires { (height ≤ length registers.now) × Tests program.now at count (stack height registers.now) }
     ensures { result ≡ all (holds (read_register (stack height registers.now))) (conditions_from program.now at count) }
 {
-    let mut i = 0;
-    let mut p = at;
-    while i < count {
+    for i in 0..count {
+        let p = at + program_parts::CONDITION_WORDS * i;
         let word = program[p];
         let low = program[p + 1];
         let high = program[p + 2];
-        if condition(registers, height, word, low, high) {
-            i += 1;
-            p += program_parts::CONDITION_WORDS;
-        } else {
+        if !condition(registers, height, word, low, high) {
             return false;
         }
     }
@@ -75,10 +71,7 @@ fn common_word(word: u32) -> bool
     ensures { result ≡ common word }
 {
     let function = program_parts::rule_function(word);
-    if function < 3 {
-        return true;
-    }
-    function == 7
+    function < 3 || function == 7
 }
 
 // Whether the function of the rule at `at` is a common one.
@@ -156,14 +149,10 @@ fn mark_again(registers: &mut [i64], height: usize, program: &[u32], at: usize, 
     requires { (height ≤ length registers.old) × ((rs : List ℤ) × (length rs ≡ height) × Evaluates program.now at count rs) }
     ensures { registers.new ≡ lay height mark (remarked (rules_from program.now at count) (stack height registers.old)) registers.old }
 {
-    let mut i = 0;
-    let mut p = at;
-    while i < count {
-        let word = program[p];
+    for i in 0..count {
+        let word = program[at + program_parts::RULE_WORDS * i];
         let below = program_parts::rule_target(word) as usize;
         registers[height - below] = value::MARK;
-        i += 1;
-        p += program_parts::RULE_WORDS;
     }
 }
 
@@ -178,20 +167,16 @@ fn copy_first(
     requires { (height ≤ length registers.old) × Evaluates program.now at count (stack height registers.old) × TargetsMarked (rules_from program.now at count) (stack height registers.old) }
     ensures { (result ≤ count) × Straight program.now at count height registers.old result (at + 2 * result) registers.new }
 {
-    let mut i = 0;
-    let mut p = at;
-    while i < count {
-        let word = program[p];
+    for i in 0..count {
+        let word = program[at + program_parts::RULE_WORDS * i];
         if program_parts::rule_function(word) != 1 {
             return i;
         }
         let target = program_parts::rule_target(word) as usize;
         let v = run_registers::read(registers, height, program_parts::rule_first(word));
         registers[height - target] = v;
-        i += 1;
-        p += program_parts::RULE_WORDS;
     }
-    i
+    count
 }
 
 // Evaluates `count` rules, whose words stand from `at` on. 01: "all or none". A value is written at once: targets stand marked, so no rule reads one.
@@ -206,9 +191,8 @@ pub fn evaluate(
     ensures { Evaluated (rules_from program.now at count) height registers.old result registers.new }
 {
     let copied = copy_first(registers, height, program, at, count);
-    let mut i = copied;
-    let mut p = at + program_parts::RULE_WORDS * copied;
-    while i < count {
+    for i in copied..count {
+        let p = at + program_parts::RULE_WORDS * i;
         let word = program[p];
         let constant = program[p + 1];
         let below = program_parts::rule_target(word) as usize;
@@ -218,8 +202,6 @@ pub fn evaluate(
             return false;
         }
         registers[height - below] = v;
-        i += 1;
-        p += program_parts::RULE_WORDS;
     }
     true
 }

@@ -23,9 +23,7 @@ pub fn remove(registers: &mut [i64], height: usize, count: usize)
     requires { (height ≤ length registers.old) × (count ≤ height) }
     ensures { registers.new ≡ lay height mark (drop count (stack height registers.old)) registers.old }
 {
-    let mut i = 0;
-    while i < count {
-        i += 1;
-        registers[height - i] = value::MARK;
+    for i in 0..count {
+        registers[height - 1 - i] = value::MARK;
     }
 }

@@ -8,24 +8,27 @@ ghost use Rattle.run_moves.specs.Held.{ReadyForMove, Answers};
 ghost use Rattle.run_moves.specs.Passing.{Resumes};
 ghost use Rattle.run_moves.specs.Returns.{ReturnsTo, Returns};
 
-use run_moves::{Run, Step};
+use refusals::Refusal;
+use run_moves::Run;
 
 // ---- test
 
 // The conditions of a symbol that was left; after it the place counts the symbol.
-pub fn test(registers: &[i64], places: &mut [u32], program: &[u32], run: Run) -> Step
+pub fn test(
+    registers: &[i64],
+    places: &mut [u32],
+    program: &[u32],
+    run: Run,
+) -> Result<Run, Refusal>
     requires { ReadyForMove program.now registers.now places.old run test_operation }
     ensures { (ahead : Machine.Coming) → Answers program.now registers.now places.old run ahead registers.now places.new result }
 {
     let n = program_parts::operand(run_moves::word_at(program, run.at));
     if run_register_rules::test(registers, run.registers, program, run.at + 1, n) {
         run_moves::count_symbol(places, run.places);
-        return Step::Moved(run_moves::counted(
-            run,
-            run.at + 1 + program_parts::CONDITION_WORDS * n,
-        ));
+        return Ok(run_moves::counted(run, run.at + 1 + program_parts::CONDITION_WORDS * n));
     }
-    Step::Blocked(22)
+    Err(Refusal::ConditionFalse)
 }
 
 // ---- remove
@@ -67,7 +70,7 @@ pub fn remove(
     program: &[u32],
     returns: &mut [usize],
     run: Run,
-) -> Step
+) -> Result<Run, Refusal>
     requires { ReadyForMove program.now registers.old places.old run remove_operation × Returns program.now returns.old }
     ensures { ((ahead : Machine.Coming) → Answers program.now registers.old places.old run ahead registers.new places.new result) × Returns program.now returns.new }
 {
@@ -78,8 +81,10 @@ pub fn remove(
     let at = onward(program, returns, height, waiting) + 1;
     places[height] = 0;
     run_moves::pass_symbol(places, height, program, at);
-    let mut next = run_moves::counted(run, at);
-    next.registers = run.registers - n;
-    next.places = height;
-    Step::Moved(next)
+    let next = run_moves::counted(run, at);
+    Ok(Run {
+        registers: run.registers - n,
+        places: height,
+        ..next
+    })
 }

@@ -8,22 +8,25 @@ ghost use Rattle.theory_program.specs.Parts.{head_operand};
 ghost use Rattle.run_register_rules.specs.Common.{common};
 ghost use Rattle.run_moves.specs.Held.{ReadyForMove, Answers};
 
-use run_moves::{Run, Step};
+use refusals::Refusal;
+use run_moves::Run;
 
 // ---- add
 
 // The registers of the next symbol. They are clear already.
-pub fn add(registers: &[i64], program: &[u32], run: Run) -> Step
+pub fn add(registers: &[i64], program: &[u32], run: Run) -> Result<Run, Refusal>
     requires { (ps : List ℕ) × ReadyForMove program.now registers.now ps run add_operation }
     ensures { (ps : List ℕ) (ahead : Machine.Coming) → Answers program.now registers.now ps run ahead registers.now ps result }
 {
     let n = program_parts::operand(run_moves::word_at(program, run.at));
     if registers.len() - run.registers < n {
-        return Step::Blocked(31);
+        return Err(Refusal::NoRegister);
     }
-    let mut next = run_moves::counted(run, run.at + 1);
-    next.registers = run.registers + n;
-    Step::Moved(next)
+    let next = run_moves::counted(run, run.at + 1);
+    Ok(Run {
+        registers: run.registers + n,
+        ..next
+    })
 }
 
 // ---- evaluate
@@ -32,18 +35,18 @@ pub fn add(registers: &[i64], program: &[u32], run: Run) -> Step
 const SINGLE_WORDS: usize = 1 + program_parts::RULE_WORDS;
 
 // One rule alone, of a common function: where the next instruction stands does not wait for the head word.
-fn evaluate_single(registers: &mut [i64], program: &[u32], run: Run) -> Step
+fn evaluate_single(registers: &mut [i64], program: &[u32], run: Run) -> Result<Run, Refusal>
     requires { ((ps : List ℕ) × ReadyForMove program.now registers.old ps run evaluate_operation) × (head_operand (get_or program.now run.at 0) ≡ 1) × (common (get_or program.now (run.at + 1) 0) ≡ true) }
     ensures { (ps : List ℕ) (ahead : Machine.Coming) → Answers program.now registers.old ps run ahead registers.new ps result }
 {
     if run_register_rules::evaluate_one(registers, run.registers, program, run.at + 1) {
-        return Step::Moved(run_moves::counted(run, run.at + SINGLE_WORDS));
+        return Ok(run_moves::counted(run, run.at + SINGLE_WORDS));
     }
-    Step::Blocked(23)
+    Err(Refusal::ValueOutside)
 }
 
 // 01: "all or none".
-pub fn evaluate(registers: &mut [i64], program: &[u32], run: Run) -> Step
+pub fn evaluate(registers: &mut [i64], program: &[u32], run: Run) -> Result<Run, Refusal>
     requires { (ps : List ℕ) × ReadyForMove program.now registers.old ps run evaluate_operation }
     ensures { (ps : List ℕ) (ahead : Machine.Coming) → Answers program.now registers.old ps run ahead registers.new ps result }
 {
@@ -54,7 +57,7 @@ pub fn evaluate(registers: &mut [i64], program: &[u32], run: Run) -> Step
         }
     }
     if run_register_rules::evaluate(registers, run.registers, program, run.at + 1, n) {
-        return Step::Moved(run_moves::counted(run, run.at + 1 + program_parts::RULE_WORDS * n));
+        return Ok(run_moves::counted(run, run.at + 1 + program_parts::RULE_WORDS * n));
     }
-    Step::Blocked(23)
+    Err(Refusal::ValueOutside)
 }

@@ -1,5 +1,5 @@
 -- What a call leaves, by the run that memory holds at its end.
-use Rattle.std.specs.Prelude.{ℕ, ◌-◌, ◌≤◌, ◌<◌, ◌≡◌, refl, Bool, true, false, List, [], map, length, get_or, T, leb, ℤ}
+use Rattle.std.specs.Prelude.{ℕ, ◌-◌, ◌≤◌, ◌<◌, ◌≡◌, refl, Bool, true, false, List, [], map, length, get_or, T, leb, ℤ, Ok, Err}
 use Rattle.std.proofs.Common.{arith, sym, ap, ap₂, ◌∙◌, subst, leb-true, leb-false}
 use Rattle.std.proofs.lemmas.List.{length-map}
 use Rattle.std.proofs.Math.ListN.{get_or-eq_default}
@@ -16,12 +16,12 @@ use Rattle.theory_program.specs.Records.{segment_words_lem}
 use Rattle.theory_program.specs.Addresses.{Begins, segment_at}
 use Rattle.theory_program.specs.WordsStand.{stands_within}
 use Rattle.run_moves.specs.declared.Run.{Run}
-use Rattle.run_machine.specs.declared.Ended as Ended
-use Rattle.run_machine.specs.declared.Ended.TheVariants.{Stopped, Failed}
+use Rattle.refusals.specs.Numbers.{refusal_number}
+use Rattle.run_machine.specs.declared.Failed.{Failed}
 use Rattle.run_moves.specs.Held.{Held}
 use Rattle.run_registers.specs.Laid.{laid_stack, laid_inside}
 use Rattle.run_registers.specs.Stack.{stack}
-use Rattle.run_machine.specs.Advancing.{Settles}
+use Rattle.run_machine.specs.Advancing.{Ended, Settles}
 use Rattle.meaning.specs.PublicCalls.{stacks_of}
 use Rattle.records.specs.declared.Status.{Status}
 use Rattle.records.specs.declared.Status.TheVariants.{Running, Closed}
@@ -40,31 +40,35 @@ open_from run = running_at run.tokens run.moves run.registers run.places
 abbrev pub closed_from : Run → State
 closed_from run = with_status Closed (open_from run)
 
+-- what is handed back where what comes or a move is refused
+abbrev pub refused_from : Failed → Handed
+refused_from f = record { state = closed_from f.run; answer = Refused (refusal_number f.refusal) f.run.tokens }
+
 -- what a feed hands back for what its tokens led to
-abbrev pub fed_from : Ended.Ended → Handed
-fed_from (Stopped run) = record { state = open_from run; answer = More run.moves }
-fed_from (Failed run k) = record { state = closed_from run; answer = Refused k run.tokens }
+abbrev pub fed_from : Ended → Handed
+fed_from (Ok run) = record { state = open_from run; answer = More run.moves }
+fed_from (Err f) = refused_from f
 
 -- what a finish hands back: register k, from the top, is the segment's value
-abbrev pub finished_from : ℕ → List ℤ → Ended.Ended → Handed
-finished_from k m (Stopped run) = record { state = closed_from run; answer = Value (read_register (stack run.registers m) k) run.moves }
-finished_from k m (Failed run j) = record { state = closed_from run; answer = Refused j run.tokens }
+abbrev pub finished_from : ℕ → List ℤ → Ended → Handed
+finished_from k m (Ok run) = record { state = closed_from run; answer = Value (read_register (stack run.registers m) k) run.moves }
+finished_from k m (Err f) = refused_from f
 
-pub fed_stopped : (e : Ended.Ended) (run : Run) (r : State) → e ≡ Stopped run → r ≡ open_from run → record { state = r; answer = More run.moves } ≡ fed_from e
+pub fed_stopped : (e : Ended) (run : Run) (r : State) → e ≡ Ok run → r ≡ open_from run → record { state = r; answer = More run.moves } ≡ fed_from e
 fed_stopped e run r q s = ap (λ z. record { state = z; answer = More run.moves }) s ∙ ap fed_from (sym q)
 
-pub fed_failed : (e : Ended.Ended) (run : Run) (k : ℕ) (r : State) → e ≡ Failed run k → r ≡ closed_from run → record { state = r; answer = Refused k run.tokens } ≡ fed_from e
-fed_failed e run k r q s = ap (λ z. record { state = z; answer = Refused k run.tokens }) s ∙ ap fed_from (sym q)
+pub fed_failed : (e : Ended) (f : Failed) (r : State) → e ≡ Err f → r ≡ closed_from f.run → record { state = r; answer = Refused (refusal_number f.refusal) f.run.tokens } ≡ fed_from e
+fed_failed e f r q s = ap (λ z. record { state = z; answer = Refused (refusal_number f.refusal) f.run.tokens }) s ∙ ap fed_from (sym q)
 
-pub finished_stopped : (n : ℕ) (m : List ℤ) (e : Ended.Ended) (run : Run) (r : State) (v : ℤ) → e ≡ Stopped run → r ≡ closed_from run → v ≡ read_register (stack run.registers m) n → record { state = r; answer = Value v run.moves } ≡ finished_from n m e
+pub finished_stopped : (n : ℕ) (m : List ℤ) (e : Ended) (run : Run) (r : State) (v : ℤ) → e ≡ Ok run → r ≡ closed_from run → v ≡ read_register (stack run.registers m) n → record { state = r; answer = Value v run.moves } ≡ finished_from n m e
 finished_stopped n m e run r v q s t = ap₂ (λ z w. record { state = z; answer = Value w run.moves }) s t ∙ ap (finished_from n m) (sym q)
 
-pub finished_failed : (n : ℕ) (m : List ℤ) (e : Ended.Ended) (run : Run) (k : ℕ) (r : State) → e ≡ Failed run k → r ≡ closed_from run → record { state = r; answer = Refused k run.tokens } ≡ finished_from n m e
-finished_failed n m e run k r q s = ap (λ z. record { state = z; answer = Refused k run.tokens }) s ∙ ap (finished_from n m) (sym q)
+pub finished_failed : (n : ℕ) (m : List ℤ) (e : Ended) (f : Failed) (r : State) → e ≡ Err f → r ≡ closed_from f.run → record { state = r; answer = Refused (refusal_number f.refusal) f.run.tokens } ≡ finished_from n m e
+finished_failed n m e f r q s = ap (λ z. record { state = z; answer = Refused (refusal_number f.refusal) f.run.tokens }) s ∙ ap (finished_from n m) (sym q)
 
 -- what the code relies on where a finish ends
-pub record Ending (ws : List ℕ) (vs : List ℤ) (e : Ended.Ended) : Type 0 where
-  pub some : (run : Run) → e ≡ Stopped run → (run.registers ≤ length vs) × (1 ≤ get_or ws 5 0) × (get_or ws 5 0 ≤ run.registers)
+pub record Ending (ws : List ℕ) (vs : List ℤ) (e : Ended) : Type 0 where
+  pub some : (run : Run) → e ≡ Ok run → (run.registers ≤ length vs) × (1 ≤ get_or ws 5 0) × (get_or ws 5 0 ≤ run.registers)
   pub long : 5 < length ws
 
 module _ (g : Grammar) (ws : List ℕ) (vs₀ : List ℤ) (ps₀ : List ℕ) (few : length vs₀ ≤ registers_limit) (little : length ps₀ ≤ places_limit) where
@@ -99,36 +103,36 @@ module _ (g : Grammar) (ws : List ℕ) (vs₀ : List ℤ) (ps₀ : List ℕ) (fe
     pub result_selected : T (is_finished d) → (1 ≤ get_or ws 5 0) × (get_or ws 5 0 ≤ run.registers)
     result_selected t = let k = (segment_words_lem h.begins).result in (omega (arith, h.well_formed.result.0), omega (arith, result_stands t))
 
-  pub feed_leaves_lem : (vs : List ℤ) (ps : List ℕ) (e : Ended.Ended) (o : Settled) → Settles g ws (lent_of (stacks_of vs₀ ps₀)) o vs ps e → handed_is (fed_from e) vs ps ≡ after_feed g (stacks_of vs₀ ps₀) o
-  feed_leaves_lem vs ps (Stopped run) o s =
+  pub feed_leaves_lem : (vs : List ℤ) (ps : List ℕ) (e : Ended) (o : Settled) → Settles g ws (lent_of (stacks_of vs₀ ps₀)) o vs ps e → handed_is (fed_from e) vs ps ≡ after_feed g (stacks_of vs₀ ps₀) o
+  feed_leaves_lem vs ps (Ok run) o s =
       let r = record_is vs ps run s.0 s.2 Running true refl in
       let k = stacks_are vs ps run s.0 s.2 in
       let v = s.2.moves in
       (λ i. record { answer = Calls.more (v i); state = r i; stacks = k i }) ∙ ap (after_feed g (stacks_of vs₀ ps₀)) (sym s.1)
-  feed_leaves_lem vs ps (Failed run j) o s =
-      let r = record_is vs ps run s.0 s.2 Closed false refl in
-      let k = stacks_are vs ps run s.0 s.2 in
+  feed_leaves_lem vs ps (Err f) o s =
+      let r = record_is vs ps f.run s.0 s.2 Closed false refl in
+      let k = stacks_are vs ps f.run s.0 s.2 in
       let t = s.2.tokens in
-      (λ i. record { answer = Calls.refused j (t i); state = r i; stacks = k i }) ∙ ap (after_feed g (stacks_of vs₀ ps₀)) (sym s.1)
+      (λ i. record { answer = Calls.refused (refusal_number f.refusal) (t i); state = r i; stacks = k i }) ∙ ap (after_feed g (stacks_of vs₀ ps₀)) (sym s.1)
 
   module _ (c : Config) (few_moves_lem : c.moves ≤ moves_limit) where
     pub is_finished_lem : (d : Config) → finish_all g (lent_of (stacks_of vs₀ ps₀)) c ≡ stopped d → T (is_finished d)
     is_finished_lem d e = (subst (λ o. Finished g (lent_of (stacks_of vs₀ ps₀)) c [] c.tokens o) e (finished g (lent_of (stacks_of vs₀ ps₀)) c [] c (record { moves = []; made = λ us b. nothing; few = few_moves_lem }))).1
 
-    pub finish_leaves : (vs : List ℤ) (ps : List ℕ) (e : Ended.Ended) → Settles g ws (lent_of (stacks_of vs₀ ps₀)) (finish_all g (lent_of (stacks_of vs₀ ps₀)) c) vs ps e → handed_is (finished_from (get_or ws 5 0) vs e) vs ps ≡ after_finish_value g (stacks_of vs₀ ps₀) (finish_all g (lent_of (stacks_of vs₀ ps₀)) c)
-    finish_leaves vs ps (Stopped run) s =
+    pub finish_leaves : (vs : List ℤ) (ps : List ℕ) (e : Ended) → Settles g ws (lent_of (stacks_of vs₀ ps₀)) (finish_all g (lent_of (stacks_of vs₀ ps₀)) c) vs ps e → handed_is (finished_from (get_or ws 5 0) vs e) vs ps ≡ after_finish_value g (stacks_of vs₀ ps₀) (finish_all g (lent_of (stacks_of vs₀ ps₀)) c)
+    finish_leaves vs ps (Ok run) s =
         let r = record_is vs ps run s.0 s.2 Closed false refl in
         let k = stacks_are vs ps run s.0 s.2 in
         let v = s.2.moves in
         let z = result_read vs ps run s.0 s.2 in
         (λ i. record { answer = Calls.value (z i) (v i); state = r i; stacks = k i }) ∙ ap (after_finish_value g (stacks_of vs₀ ps₀)) (sym s.1)
-    finish_leaves vs ps (Failed run j) s =
-        let r = record_is vs ps run s.0 s.2 Closed false refl in
-        let k = stacks_are vs ps run s.0 s.2 in
+    finish_leaves vs ps (Err f) s =
+        let r = record_is vs ps f.run s.0 s.2 Closed false refl in
+        let k = stacks_are vs ps f.run s.0 s.2 in
         let t = s.2.tokens in
-        (λ i. record { answer = Calls.refused j (t i); state = r i; stacks = k i }) ∙ ap (after_finish_value g (stacks_of vs₀ ps₀)) (sym s.1)
+        (λ i. record { answer = Calls.refused (refusal_number f.refusal) (t i); state = r i; stacks = k i }) ∙ ap (after_finish_value g (stacks_of vs₀ ps₀)) (sym s.1)
 
-    pub ended_by : Begins g ws → (vs : List ℤ) (ps : List ℕ) (e : Ended.Ended) → Settles g ws (lent_of (stacks_of vs₀ ps₀)) (finish_all g (lent_of (stacks_of vs₀ ps₀)) c) vs ps e → Ending ws vs e
+    pub ended_by : Begins g ws → (vs : List ℤ) (ps : List ℕ) (e : Ended) → Settles g ws (lent_of (stacks_of vs₀ ps₀)) (finish_all g (lent_of (stacks_of vs₀ ps₀)) c) vs ps e → Ending ws vs e
     ended_by b vs ps e s =
         record {
           some = λ run q.

@@ -13,10 +13,10 @@ ghost use Rattle.run_moves.specs.Held.{Held};
 ghost use Rattle.meaning.specs.PublicCalls.{stacks_of};
 ghost use Rattle.records.specs.Records.{state_is};
 ghost use Rattle.run_states.specs.Starting.{Stood, PlaceStands, Fitting};
-ghost use Rattle.run_states.specs.Leaving.{open_from, closed_from, fed_from, finished_from, Ending};
+ghost use Rattle.run_states.specs.Leaving.{open_from, closed_from, refused_from, fed_from, finished_from, Ending};
 
 use records::{Answer, Handed, State};
-use run_machine::Ended;
+use run_machine::Failed;
 use run_moves::Run;
 
 // ---- from a state to a run
@@ -72,43 +72,44 @@ fn closed_at(run: Run) -> State
     open_at(run).closed()
 }
 
-pub fn fed(ended: Ended) -> Handed
-    ensures { result ≡ fed_from ended }
+// A run that is over by a refusal.
+fn refused(failed: Failed) -> Handed
+    ensures { result ≡ refused_from failed }
 {
-    match ended {
-        Ended::Stopped(run) => Handed {
-            state: open_at(run),
-            answer: Answer::More(run.moves),
-        },
-        Ended::Failed(run, number) => Handed {
-            state: closed_at(run),
-            answer: Answer::Refused {
-                number,
-                tokens: run.tokens,
-            },
+    Handed {
+        state: closed_at(failed.run),
+        answer: Answer::Refused {
+            number: failed.refusal.number(),
+            tokens: failed.run.tokens,
         },
     }
 }
 
+pub fn fed(ended: Result<Run, Failed>) -> Handed
+    ensures { result ≡ fed_from ended }
+{
+    match ended {
+        Ok(run) => Handed {
+            state: open_at(run),
+            answer: Answer::More(run.moves),
+        },
+        Err(failed) => refused(failed),
+    }
+}
+
 // The value is the result register of the start symbol.
-pub fn finished(registers: &[i64], program: &[u32], ended: Ended) -> Handed
+pub fn finished(registers: &[i64], program: &[u32], ended: Result<Run, Failed>) -> Handed
     requires { Ending program.now registers.now ended }
     ensures { result ≡ finished_from (get_or program.now 5 0) registers.now ended }
 {
     match ended {
-        Ended::Stopped(run) => Handed {
+        Ok(run) => Handed {
             state: closed_at(run),
             answer: Answer::Value(
                 run_registers::read(registers, run.registers, program[5]),
                 run.moves,
             ),
         },
-        Ended::Failed(run, number) => Handed {
-            state: closed_at(run),
-            answer: Answer::Refused {
-                number,
-                tokens: run.tokens,
-            },
-        },
+        Err(failed) => refused(failed),
     }
 }

@@ -8,7 +8,8 @@ ghost use Rattle.run_moves.specs.Held.{ReadyForMove};
 ghost use Rattle.run_moves.specs.Moves.{passed};
 ghost use Rattle.run_turn.specs.entering.Predicting.{Predicts};
 
-use run_moves::{Run, Step};
+use refusals::Refusal;
+use run_moves::Run;
 use run_predict::push;
 
 // Pushes the place of a production whose first symbol is read: it is passed now, unless a test follows at `at`.
@@ -18,9 +19,9 @@ fn push_read(places: &mut [u32], height: usize, production: usize, program: &[u3
 {
     if program_parts::operation(run_moves::word_at(program, at)) == operations::TEST {
         push(places, height, production);
-        return;
+    } else {
+        places[height] = program_parts::place(production, 1);
     }
-    places[height] = program_parts::place(production, 1);
 }
 
 // The predict by a word of the directory that says where a scheme begins, and the read of the token where it comes next.
@@ -30,24 +31,29 @@ pub fn enter_and_read(
     run: Run,
     look: usize,
     entry: usize,
-) -> Step
+) -> Result<Run, Refusal>
     requires { ((rs : List ℤ) × ReadyForMove program.now rs places.old run predict_operation) × (look < 64) × (entry ≡ get_or program.now (9 + 64 * head_operand (get_or program.now run.at 0) + look) 0) × (directory_step ≤ entry) }
     ensures { (rs : List ℤ) → Predicts program.now rs places.old run look places.new result }
 {
     let height = run.places;
     if height == places.len() {
-        return Step::Blocked(32);
+        return Err(Refusal::NoPlace);
     }
     let at = program_parts::directory_scheme(entry);
     let production = program_parts::directory_number(entry) - 1;
-    let mut next = run_moves::counted(run, at);
-    next.places = height + 1;
+    let pushed = run_moves::counted(run, at);
+    let next = Run {
+        places: height + 1,
+        ..pushed
+    };
     if run_next_token::can_read_plain(program, next, look) {
         push_read(places, height, production, program, at + 1);
-        let mut after = run_moves::counted(next, at + 1);
-        after.tokens = run.tokens + 1;
-        return Step::Moved(after);
+        let after = run_moves::counted(next, at + 1);
+        return Ok(Run {
+            tokens: run.tokens + 1,
+            ..after
+        });
     }
     push(places, height, production);
-    Step::Moved(next)
+    Ok(next)
 }

@@ -13,8 +13,9 @@ ghost use Rattle.run_next_token.specs.Turns.{Fed, Turned};
 ghost use Rattle.run_turn.specs.Stages.{StageLeads, AddOrEvaluate, MadeAtHand, BothAtHand, TurnsOn};
 
 use limits::MOVES_LIMIT;
+use refusals::Refusal;
 use run_looking::Limits;
-use run_moves::{Run, Step};
+use run_moves::{Halt, Run};
 use run_next_token::read_next;
 use run_remove::RETURNS;
 
@@ -23,53 +24,59 @@ pub mod entering;
 // How many words the return addresses that are kept take: a place and its address each.
 pub const RETURN_WORDS: usize = 2 * RETURNS;
 
-// What a turn leads to: the run after its moves, or the run at which they end and the number that ends them, 0 for a stop.
-#[derive(Clone, Copy)]
-pub enum Onward {
-    Going(Run),
-    Over(Run, u32),
+// The run at which the moves end, and why.
+#[derive(Clone, Copy, Debug, PartialEq, Eq)]
+pub struct Over {
+    pub run: Run,
+    pub halt: Halt,
 }
 
 // ---- moves that look at nothing
 
 // The add, where it is at hand.
-fn add_if_at_hand(registers: &[i64], program: &[u32], run: Run) -> Step
+fn add_if_at_hand(registers: &[i64], program: &[u32], run: Run) -> Result<Run, Refusal>
     requires { (ps : List ℕ) × Running program.now registers.now ps run }
     ensures { MadeAtHand program.now registers.now run add_operation registers.now result }
 {
     if program_parts::operation(run_moves::word_at(program, run.at)) != operations::ADD {
-        return Step::Moved(run);
+        return Ok(run);
     }
     if run.moves == MOVES_LIMIT {
-        return Step::Blocked(35);
+        return Err(Refusal::LimitReached);
     }
     run_rules::add(registers, program, run)
 }
 
 // The evaluate, where it is at hand.
-fn evaluate_if_at_hand(registers: &mut [i64], program: &[u32], run: Run) -> Step
+fn evaluate_if_at_hand(registers: &mut [i64], program: &[u32], run: Run) -> Result<Run, Refusal>
     requires { (ps : List ℕ) × Running program.now registers.old ps run }
     ensures { MadeAtHand program.now registers.old run evaluate_operation registers.new result }
 {
     if program_parts::operation(run_moves::word_at(program, run.at)) != operations::EVALUATE {
-        return Step::Moved(run);
+        return Ok(run);
     }
     if run.moves == MOVES_LIMIT {
-        return Step::Blocked(35);
+        return Err(Refusal::LimitReached);
     }
     run_rules::evaluate(registers, program, run)
 }
 
 // The add and the evaluate, where they are at hand, one after the other.
-fn add_and_evaluate(registers: &mut [i64], program: &[u32], run: Run) -> Onward
+fn add_and_evaluate(registers: &mut [i64], program: &[u32], run: Run) -> Result<Run, Over>
     requires { (ps : List ℕ) × Running program.now registers.old ps run }
     ensures { BothAtHand program.now registers.old run registers.new result }
 {
     match add_if_at_hand(registers, program, run) {
-        Step::Blocked(n) => Onward::Over(run, n),
-        Step::Moved(next) => match evaluate_if_at_hand(registers, program, next) {
-            Step::Blocked(n) => Onward::Over(next, n),
-            Step::Moved(after) => Onward::Going(after),
+        Err(refusal) => Err(Over {
+            run,
+            halt: Halt::Refused(refusal),
+        }),
+        Ok(next) => match evaluate_if_at_hand(registers, program, next) {
+            Err(refusal) => Err(Over {
+                run: next,
+                halt: Halt::Refused(refusal),
+            }),
+            Ok(after) => Ok(after),
         },
     }
 }
@@ -84,14 +91,12 @@ fn search_and_read(
     run: Run,
     look: usize,
     first: usize,
-) -> Step
+) -> Result<Run, Refusal>
     requires { (ReadyForMove program.now registers.now places.old run predict_operation × (look < 64)) × ((first ≡ directory_number (get_or program.now (9 + 64 * head_operand (get_or program.now run.at 0) + look) 0)) × (first ≡ 0 → ⊥)) }
     ensures { Predicts program.now registers.now places.old run look places.new result }
 {
-    match run_predict::search(registers, places, program, run, look, first) {
-        Step::Blocked(n) => Step::Blocked(n),
-        Step::Moved(next) => Step::Moved(run_next_token::read_on(places, program, next, look)),
-    }
+    let next = run_predict::search(registers, places, program, run, look, first)?;
+    Ok(run_next_token::read_on(places, program, next, look))
 }
 
 // The predict by the directory's word: of an alternative without entry tests, of one that is searched for, or of none.
@@ -101,7 +106,7 @@ fn predict_token(
     program: &[u32],
     run: Run,
     look: usize,
-) -> Step
+) -> Result<Run, Refusal>
     requires { ReadyForMove program.now registers.now places.old run predict_operation × (look < 64) }
     ensures { Predicts program.now registers.now places.old run look places.new result }
 {
@@ -110,7 +115,7 @@ fn predict_token(
         return crate::entering::enter_and_read(places, program, run, look, entry);
     }
     if entry == 0 {
-        return Step::Blocked(run_moves::unexpected(look));
+        return Err(run_moves::unexpected(look));
     }
     search_and_read(registers, places, program, run, look, entry)
 }
@@ -124,23 +129,20 @@ fn predict_next(
     run: Run,
     kinds: &[u8],
     limits: Limits,
-) -> Step
+) -> Result<Run, Halt>
     requires { ((vs : List ℤ) × Fed limits.bound program.now registers.now places.old run kinds.now vs) × (head_operation (get_or program.now run.at 0) ≡ predict_operation) × (run.moves < Machine.moves_limit) × (limits.from ≤ run.tokens) × Returns program.now returns.old }
     ensures { ((vs : List ℤ) → length kinds.now ≡ length vs → Turned limits.bound limits.most program.now kinds.now vs (run.tokens - limits.from) registers.now places.old run registers.now places.new result)
         × Returns program.now returns.new }
 {
-    let k = run_looking::judged(run.tokens, kinds, limits);
-    if k != run_looking::TAKEN {
-        return Step::Blocked(k);
-    }
+    run_looking::judged(run.tokens, kinds, limits)?;
     let i = (run.tokens - limits.from) as usize;
     let look = kinds[i] as usize;
     let waiting = run_moves::word_at(places, run.places - 1);
     run_remove::keep_return(returns, run.places, waiting, run.at);
-    predict_token(registers, places, program, run, look)
+    Ok(predict_token(registers, places, program, run, look)?)
 }
 
-// The move at hand; 0 where it stops for want of what comes next. An add or an evaluate is left for the next turn.
+// The move at hand; a pause where it waits for what comes next. An add or an evaluate is left for the next turn.
 fn make_other_move(
     registers: &mut [i64],
     places: &mut [u32],
@@ -150,7 +152,7 @@ fn make_other_move(
     kinds: &[u8],
     values: &[i32],
     limits: Limits,
-) -> Step
+) -> Result<Run, Halt>
     requires { Fed limits.bound program.now registers.old places.old run kinds.now values.now × (limits.from ≤ run.tokens) × Returns program.now returns.old }
     ensures { StageLeads (AddOrEvaluate program.now) limits.bound limits.most program.now kinds.now values.now (run.tokens - limits.from) registers.old places.old run registers.new places.new result
         × Returns program.now returns.new }
@@ -166,13 +168,13 @@ fn make_other_move(
         return read_next(registers, places, program, run, kinds, values, limits);
     }
     if operation < operations::READ {
-        return Step::Moved(run);
+        return Ok(run);
     }
     if operation == operations::TEST {
-        return run_remove::test(registers, places, program, run);
+        return Ok(run_remove::test(registers, places, program, run)?);
     }
     if operation == operations::REMOVE {
-        return run_remove::remove(registers, places, program, returns, run);
+        return Ok(run_remove::remove(registers, places, program, returns, run)?);
     }
     run_next_token::nothing_next(run, kinds, limits)
 }
@@ -187,18 +189,16 @@ pub fn turn(
     kinds: &[u8],
     values: &[i32],
     limits: Limits,
-) -> Onward
+) -> Result<Run, Over>
     requires { Fed limits.bound program.now registers.old places.old run kinds.now values.now × (limits.from ≤ run.tokens) × Returns program.now returns.old }
     ensures { TurnsOn limits.bound limits.most program.now kinds.now values.now (run.tokens - limits.from) registers.old places.old run registers.new places.new result
         × Returns program.now returns.new }
 {
-    match add_and_evaluate(registers, program, run) {
-        Onward::Over(at, n) => Onward::Over(at, n),
-        Onward::Going(next) => match make_other_move(
-            registers, places, program, returns, next, kinds, values, limits,
-        ) {
-            Step::Blocked(n) => Onward::Over(next, n),
-            Step::Moved(after) => Onward::Going(after),
-        },
+    let next = add_and_evaluate(registers, program, run)?;
+    match make_other_move(
+        registers, places, program, returns, next, kinds, values, limits,
+    ) {
+        Err(halt) => Err(Over { run: next, halt }),
+        Ok(after) => Ok(after),
     }
 }

@@ -6,6 +6,7 @@ ghost use Rattle.meaning.specs.Limits.{registers_limit, places_limit};
 ghost use Rattle.meaning.specs.Base.{all};
 ghost use Rattle.meaning.specs.Rules.{four_bytes};
 ghost use Rattle.meaning_sheet.specs.SheetCalls.{Sheets};
+ghost use Rattle.refusals.specs.Numbers.{refusal_or_zero};
 ghost use Rattle.run_fit.specs.HasProgram.{Readable};
 ghost use Rattle.sheet.specs.tree.steps.Numbers.{low, run_in};
 ghost use Rattle.sheet.specs.Starting.{Lacking};
@@ -14,6 +15,7 @@ ghost use Rattle.sheet.specs.Segments.{Opens, Cells, Ends, Ended, SegmentDone, U
 
 use limits::{AREA, PLACES, REGISTERS, TOKENS_BEFORE};
 use prepare::Made;
+use refusals::Refusal;
 use run_moves::Run;
 use sheet_answers::Answer;
 
@@ -31,18 +33,18 @@ fn ended(registers: &[i64], program: &[u32], kinds: &[u8], run: Run, end: usize)
     }
     if TOKENS_BEFORE < run.tokens {
         return Answer::Refused {
-            number: 35,
+            number: Refusal::LimitReached.number(),
             tokens: run.tokens,
         };
     }
     if run_moves::word_at(program, program_parts::TERMINALS) <= kinds[n] as usize {
         return Answer::Refused {
-            number: 20,
+            number: Refusal::UnknownToken.number(),
             tokens: run.tokens,
         };
     }
     Answer::Refused {
-        number: 21,
+        number: Refusal::UnexpectedToken.number(),
         tokens: run.tokens,
     }
 }
@@ -66,17 +68,17 @@ fn over(registers: &[i64], program: &[u32], kinds: &[u8], numbers: &[u64; 8]) ->
     ended(&registers[..n], program, kinds, run, end)
 }
 
-// 31 or 32 of an opening with so many registers and places, of which the start symbol's results need `count`; 0 where they suffice.
-fn lacking(count: usize, n: usize, k: usize) -> u32
-    ensures { Lacking count n k result }
+// Whether so many registers and places suffice for an opening, where the start symbol's results need `count` registers.
+fn lacking(count: usize, n: usize, k: usize) -> Result<(), Refusal>
+    ensures { Lacking count n k (refusal_or_zero result) }
 {
     if n < count {
-        return 31;
+        Err(Refusal::NoRegister)
+    } else if k == 0 {
+        Err(Refusal::NoPlace)
+    } else {
+        Ok(())
     }
-    if k == 0 {
-        return 32;
-    }
-    0
 }
 
 // A segment from its opening to its end, with so many registers and places: the start symbol's node.
@@ -94,9 +96,11 @@ fn segment(
     ensures { SegmentDone program.now kinds.now values.now n k sheet.old sheet.new result }
 {
     let count = run_moves::word_at(program, program_parts::REGISTERS);
-    let number = lacking(count, n, k);
-    if number != 0 {
-        return Answer::Refused { number, tokens: 0 };
+    if let Err(refusal) = lacking(count, n, k) {
+        return Answer::Refused {
+            number: refusal.number(),
+            tokens: 0,
+        };
     }
     open(registers, places, program, n, k);
     let mut numbers = [0u64; 8];
@@ -163,7 +167,7 @@ fn sheet_under(
 {
     if kinds.len() != values.len() {
         return Answer::Refused {
-            number: 38,
+            number: Refusal::UnequalLists.number(),
             tokens: 0,
         };
     }
@@ -179,9 +183,11 @@ fn sheet_under(
         Answer::TableRefused { number, offset } => Answer::TableRefused { number, offset },
         Answer::Refused { number, tokens } => Answer::Refused { number, tokens },
         Answer::Value(value, moves, size) => {
-            let number = sheet_room::refusal(sheet.len(), size);
-            if number != 0 {
-                return Answer::Refused { number, tokens: 0 };
+            if let Err(refusal) = sheet_room::refusal(sheet.len(), size) {
+                return Answer::Refused {
+                    number: refusal.number(),
+                    tokens: 0,
+                };
             }
             walk(program, kinds, values, registers, places, sheet)
         }
@@ -192,10 +198,8 @@ fn sheet_under(
 fn all_values(values: &[i32])
     ensures { T (all four_bytes values.now) }
 {
-    let mut i = 0;
-    while i < values.len() {
-        let value = values[i];
-        i += 1;
+    for value in values {
+        let _value = *value;
     }
 }
 
@@ -213,14 +217,14 @@ pub fn sheet(
     let mut program = [0u32; AREA];
     match prepare::program_of(table, &mut program) {
         Made::Short => Answer::Refused {
-            number: 30,
+            number: Refusal::AreaShort.number(),
             tokens: 0,
         },
         Made::Refused { number, offset } => Answer::TableRefused {
             number,
             offset: offset as u64,
         },
-        Made::Written(length) => {
+        Made::Written(_) => {
             all_values(values);
             sheet_under(&program, kinds, values, registers, places, sheet)
         }

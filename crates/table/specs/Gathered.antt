@@ -1,5 +1,5 @@
 -- The reader with a note of the occurrences set: 8 is asked of the note, the symbols and the counts, never of the rules read before. For every table it says what `read_table` says, which knows no note.
-use Rattle.std.specs.Prelude.{ℕ, zero, suc, ◌+◌, ◌-◌, ◌*◌, ◌≡◌, refl, Bool, true, false, ◌&&◌, ◌||◌, not, List, [], ◌∷◌, map, eqb, ltb, leb, length, drop, take}
+use Rattle.std.specs.Prelude.{Result, ℕ, zero, suc, ◌+◌, ◌-◌, ◌*◌, ◌≡◌, refl, Bool, true, false, ◌&&◌, ◌||◌, not, List, [], ◌∷◌, map, eqb, ltb, leb, length, drop, take}
 use Rattle.std.proofs.Common.{sym, ◌∙◌, ap, ap₂, subst, true≢false, arith, eqb-true}
 use Rattle.std.proofs.Math.Option.{Option}
 use Rattle.meaning.specs.Limits.{table_limit}
@@ -8,7 +8,8 @@ use Rattle.meaning.specs.Grammar.{Occurrence, Rule, Counts}
 use Rattle.meaning.specs.Table.{byte, Header, header_of, Field, Entry, State, nothing_read, current, is_some, at_header, at_counts, at_first, at_any, stage, tag_stands, Kind, header, counts, production, rule, condition, carrier, kind_of}
 use Rattle.meaning.specs.Table.{limits_hold, known, start_right, directions_right, rule_of, is_input, same_occurrence, set_once, occurrences_at, complete, last_complete, left_to_right, bounds_right, lowest_of, judge_field, read_field, Read, well_formed, malformed, read_all, read_table}
 use Rattle.table_rules.specs.Note.{is_noted, Notes}
-use Rattle.table.specs.declared.Reading.{Reading}
+use Rattle.outline.specs.declared.Sizes.{Sizes}
+use Rattle.refusals.specs.declared.TableRefusal.{TableRefusal}
 use Rattle.table.specs.Answer.{Answers}
 
 -- ---- the note, as the list of its occurrences
@@ -231,6 +232,6 @@ note_same note rs n o = n.holds o ∙ sym (in_targets rs o)
 
 -- what `read_table` answers, by the reader with a note
 pub answers_gathered :
-    (r : Reading) (inherited synthesized rows offsets bs : List ℕ)
+    (r : Result Sizes TableRefusal) (inherited synthesized rows offsets bs : List ℕ)
     → Answers r inherited synthesized rows offsets (read_table bs) → Answers r inherited synthesized rows offsets (read_gathered bs)
 answers_gathered r inherited synthesized rows offsets bs a = subst (Answers r inherited synthesized rows offsets) (sym (gathered bs)) a

@@ -1,10 +1,2 @@
-// What a reader of a table answers: refusals 1 to 10, or an outline of what was read.
+// What is said of a reader of a table: it answers an outline of what was read, or refusal 1 to 10. The definitions are in specs.
 #![tactic(auto)]
-
-use outline::Sizes;
-
-#[derive(Clone, Copy)]
-pub enum Reading {
-    WellFormed(Sizes),
-    Malformed { number: u8, offset: u32 },
-}

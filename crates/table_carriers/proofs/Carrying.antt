@@ -11,7 +11,7 @@ use Rattle.meaning.specs.Limits.{terminals_limit}
 use Rattle.meaning.specs.Base.{any}
 use Rattle.meaning.specs.Grammar.{Counts}
 use Rattle.meaning.specs.Sets.{has, singleton}
-use Rattle.meaning.specs.Table.{byte, Header, read_field, kind_of, judge_field}
+use Rattle.meaning.specs.Table.{byte, Header, malformed, read_field, kind_of, judge_field}
 use Rattle.theory_sets.specs.TokenSets.{has_union, has_empty, single_is}
 use Rattle.token_set.specs.declared.TokenSet.{TokenSet}
 use Rattle.token_set.specs.SetBits.{set_of, set_empty, set_or}
@@ -24,7 +24,10 @@ use Rattle.table_fields.proofs.Judged.{carrier_judged}
 use Rattle.table_fields.proofs.Rest.{judged_fine, judged_refused, step_short, step_field, calm_complete, body_length, body_byte, field_of}
 use Rattle.outline.specs.Outline.{Carries}
 use Rattle.theory_base.specs.Members.{eqb_both}
-use Rattle.table_carriers.specs.Named.{CarrierJudged, NoCarrier, CarriersRead}
+use Rattle.refusals.specs.Numbers.{fault_number}
+use Rattle.table_counts.proofs.Faulty.{faulty}
+use Rattle.table_carriers.specs.declared.RefusedCarrier.{RefusedCarrier}
+use Rattle.table_carriers.specs.Named.{CarrierJudged, NoCarrier, CarriersDone, CarrierRefused}
 
 -- ---- one field
 
@@ -115,14 +118,12 @@ module _ (t : List ℕ) (from terminals : ℕ) where
 
   module _ (at least : ℕ) (set : TokenSet) (w : Carrying t from terminals at least set.0) where
     module _ (number : ℕ) (j : CarrierJudged t at terminals least number) where
-      pub carrying_refused : (number ≡ 0 → ⊥) → CarriersRead t from terminals (record { number = number; at = at; carrying = set })
-      carrying_refused n =
+      pub carrying_refused : (r : RefusedCarrier) → fault_number r.fault ≡ number → r.at ≡ at → CarrierRefused t from terminals r
+      carrying_refused r p q =
+          let n : (number ≡ 0 → ⊥) = λ z. faulty r.fault (p ∙ z) in
           record {
-            list = w.list;
-            read = λ h cs os tm all. w.read h cs os tm all ∙ j.read h cs os w.list tm all w.low ∙ judged_refused number at _ n ∙ sym (judged_refused number at _ n);
-            held = w.held;
-            inside = w.inside;
-            other = λ z. absurd (n z);
+            read = λ h cs os tm all. w.read h cs os tm all ∙ j.read h cs os w.list tm all w.low ∙ judged_refused number at _ n ∙ ap₂ malformed (sym p) (sym q);
+            inside = omega (arith, w.inside);
           }
 
       pub carrying_more :
@@ -137,12 +138,12 @@ module _ (t : List ℕ) (from terminals : ℕ) where
             inside = j.long z;
           }
 
-    pub carrying_end : NoCarrier t at → CarriersRead t from terminals (record { number = 0; at = at; carrying = set })
+    pub carrying_end : NoCarrier t at → CarriersDone t from terminals (record { at = at; carrying = set })
     carrying_end o =
         record {
           list = w.list;
-          read = λ h cs os tm all. w.read h cs os tm all ∙ sym (judged_fine 0 at _ refl);
+          read = w.read;
           held = w.held;
           inside = w.inside;
-          other = λ z. o;
+          other = o;
         }

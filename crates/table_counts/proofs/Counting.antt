@@ -9,7 +9,10 @@ use lib.ListN.{length, get_or, set, length-set}
 use lib.Seq.{get_or-set_same, get_or-set_other}
 use Rattle.meaning.specs.Limits.{attributes_limit, nonterminals_limit}
 use Rattle.meaning.specs.Grammar.{Counts}
-use Rattle.meaning.specs.Table.{byte, Read}
+use Rattle.meaning.specs.Table.{byte, Read, malformed}
+use Rattle.std.specs.Prelude.{Result, Ok}
+use Rattle.refusals.specs.declared.TableRefusal.{TableRefusal}
+use Rattle.table_counts.specs.Refused.{number_in, offset_in}
 use Rattle.table_fields.specs.Field.{rest, judged}
 use Rattle.table_fields.specs.Reads.{state_of}
 use Rattle.table_fields.proofs.Rest.{judged_fine, judged_refused}
@@ -53,13 +56,14 @@ module _ (t : List ℕ) (n : ℕ) (inh syn : List ℕ) (c : Counting t n inh syn
     step : rest t (headed t) 7 ≡ judged number at after
     step = c.read ∙ j.read (header_in t) (counts_up_to inh syn n) (offsets_up_to n) (length_counts inh syn n) few (sym starts) (sym results)
 
-    pub counting_refused : (k : ℕ) → (number ≡ 0 → ⊥) → CountsRead t k inh syn (record { number = number; offset = at })
-    counting_refused k h =
+    pub counting_refused : {A : Type 0} (k : ℕ) (r : Result A TableRefusal) → number_in r ≡ number → offset_in r ≡ at → (number ≡ 0 → ⊥) → CountsRead t k inh syn r
+    counting_refused k r p q h =
+        let e : (number_in r ≡ 0 → ⊥) = λ z. h (sym p ∙ z) in
         record {
-          read = step ∙ judged_refused number at after h ∙ sym (judged_refused number at _ h);
-          long = λ z. absurd (h z);
-          small = λ z. absurd (h z);
-          inside = c.long;
+          read = step ∙ judged_refused number at after h ∙ ap₂ malformed (sym p) (sym q) ∙ sym (judged_refused (number_in r) (offset_in r) _ e);
+          long = λ z. absurd (e z);
+          small = λ z. absurd (e z);
+          inside = omega (arith, c.long);
         }
 
     module _ (fine : number ≡ 0) (room : n < nonterminals_limit) where
@@ -111,8 +115,8 @@ module _ (t : List ℕ) (n : ℕ) (inh syn : List ℕ) (c : Counting t n inh syn
             second = length-set syn n (byte t (at + 4)) ∙ c.second;
           }
 
-  pub counting_end : (k : ℕ) → n ≡ k → CountsRead t k inh syn (record { number = 0; offset = 0 })
-  counting_end k e =
+  pub counting_end : {A : Type 0} (k : ℕ) (a : A) → n ≡ k → CountsRead t k inh syn (Ok a)
+  counting_end k a e =
       record {
         read = c.read ∙ ap (λ i. rest t (counted t inh syn i) (7 + 5 * i)) e ∙ sym (judged_fine 0 0 _ refl);
         long = λ z. omega (arith, c.long);

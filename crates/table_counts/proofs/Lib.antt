@@ -2,3 +2,5 @@
 pub mod Steps
 -- The tag 2 fields, one after the other
 pub mod Counting
+-- No fault has the number 0
+pub mod Faulty

@@ -1,11 +1,12 @@
 -- The header and the counts as they are read.
-use Rattle.std.specs.Prelude.{ℕ, zero, suc, ◌+◌, ◌*◌, ◌≤◌, ◌<◌, ◌≡◌, List, [], ◌∷◌, get_or, length}
+use Rattle.std.specs.Prelude.{ℕ, zero, suc, ◌+◌, ◌*◌, ◌≤◌, ◌<◌, ◌≡◌, List, [], ◌∷◌, Result, get_or, length}
 use Rattle.meaning.specs.Limits.{attributes_limit, nonterminals_limit, terminals_limit}
 use Rattle.meaning.specs.Grammar.{Counts}
 use Rattle.meaning.specs.Table.{byte, Header, State, nothing_read}
 use Rattle.table_fields.specs.Reads.{state_of}
 use Rattle.table_fields.specs.Field.{rest, judged}
-use Rattle.table_counts.specs.declared.Refusal.{Refusal}
+use Rattle.refusals.specs.declared.TableRefusal.{TableRefusal}
+use Rattle.table_counts.specs.Refused.{number_in, offset_in}
 
 -- the header of a table that has one
 abbrev pub header_in : List ℕ → Header
@@ -48,8 +49,8 @@ pub record CountsJudged (t : List ℕ) (at n start result number : ℕ) : Type 0
   pub small : number ≡ 0 → byte t (at + 3) + byte t (at + 4) ≤ attributes_limit
 
 -- all counts read, or a refusal
-pub record CountsRead (t : List ℕ) (n : ℕ) (inherited synthesized : List ℕ) (r : Refusal) : Type 0 where
-  pub read : rest t (headed t) 7 ≡ judged r.number r.offset (rest t (counted t inherited synthesized n) (7 + 5 * n))
-  pub long : r.number ≡ 0 → 7 + 5 * n ≤ length t
-  pub small : r.number ≡ 0 → SmallCounts inherited synthesized n
-  pub inside : r.offset ≤ length t
+pub record CountsRead {A : Type 0} (t : List ℕ) (n : ℕ) (inherited synthesized : List ℕ) (r : Result A TableRefusal) : Type 0 where
+  pub read : rest t (headed t) 7 ≡ judged (number_in r) (offset_in r) (rest t (counted t inherited synthesized n) (7 + 5 * n))
+  pub long : number_in r ≡ 0 → 7 + 5 * n ≤ length t
+  pub small : number_in r ≡ 0 → SmallCounts inherited synthesized n
+  pub inside : offset_in r ≤ length t

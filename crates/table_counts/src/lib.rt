@@ -4,53 +4,54 @@
 ghost use Rattle.std.specs.Prelude.{◌≡◌, ◌≤◌, length};
 ghost use Rattle.meaning.specs.Limits.{nonterminals_limit};
 ghost use Rattle.meaning.specs.Table.{byte};
+ghost use Rattle.refusals.specs.Numbers.{fault_or_zero};
 ghost use Rattle.table_counts.specs.Counted.{CountsJudged, CountsRead, HeaderJudged};
 
 use limits::NONTERMINALS;
+use refusals::{TableFault, TableRefusal};
 
-// A refusal by its number and offset; 0 for none.
-#[derive(Clone, Copy)]
-pub struct Refusal {
-    pub number: u8,
-    pub offset: usize,
-}
-
-// The number of the refusal at offset 0, or 0.
-pub fn header_number(table: &[u8]) -> u8
-    ensures { HeaderJudged table.now result }
+// What is wrong with the header, the field at offset 0.
+#[tactic(auto, using(crate::proofs::Steps::part_body, crate::proofs::Steps::header_over, crate::proofs::Steps::header_cut, crate::proofs::Steps::header_other, crate::proofs::Steps::header_right))]
+pub fn judge_header(table: &[u8]) -> Result<(), TableFault>
+    ensures { HeaderJudged table.now (fault_or_zero result) }
 {
-    if table.len() == 0 {
-        return 3;
+    if table.is_empty() {
+        return Err(TableFault::OutOfOrder);
     }
     let size = table_fields::size_at(table, 0);
     if table_fields::LARGEST < size {
-        return 2;
+        return Err(TableFault::CutShort);
     }
-    if table_fields::wide(table[0]) != 1 {
-        return 3;
+    if table[0] != 1 {
+        return Err(TableFault::OutOfOrder);
     }
-    let end = 3 + size;
-    table_field_faults::header_fault(&table[3..end])
+    table_field_faults::header_fault(&table[3..3 + size])
 }
 
-// The number of the refusal of nonterminal n's counts, or 0.
-pub fn counts_number(table: &[u8], at: usize, n: usize, start: usize, res: usize) -> u8
+// What is wrong with the counts of nonterminal n.
+#[tactic(auto, using(crate::proofs::Steps::part_body, crate::proofs::Steps::counts_over, crate::proofs::Steps::counts_cut, crate::proofs::Steps::counts_other, crate::proofs::Steps::counts_right))]
+pub fn judge_counts(
+    table: &[u8],
+    at: usize,
+    n: usize,
+    start: usize,
+    res: usize,
+) -> Result<(), TableFault>
     requires { at ≤ length table.now }
-    ensures { CountsJudged table.now at n start res result }
+    ensures { CountsJudged table.now at n start res (fault_or_zero result) }
 {
     if table.len() <= at {
-        return 3;
+        return Err(TableFault::OutOfOrder);
     }
     let size = table_fields::size_at(table, at);
     if table_fields::LARGEST < size {
-        return 2;
+        return Err(TableFault::CutShort);
     }
-    if table_fields::wide(table[at]) != 2 {
-        return 3;
+    if table[at] != 2 {
+        return Err(TableFault::OutOfOrder);
     }
     let from = at + 3;
-    let end = from + size;
-    table_field_faults::counts_fault(n, start, res, &table[from..end])
+    table_field_faults::counts_fault(n, start, res, &table[from..from + size])
 }
 
 // All tag 2 fields.
@@ -61,24 +62,17 @@ pub fn read_counts(
     res: usize,
     inherited: &mut [u8; NONTERMINALS],
     synthesized: &mut [u8; NONTERMINALS],
-) -> Refusal
-    requires { (nonterminals ≡ byte table.now 4) × (start ≡ byte table.now 5) × (res ≡ byte table.now 6) × (nonterminals ≤ nonterminals_limit) × (7 ≤ length table.now) × (length inherited.old ≡ nonterminals_limit) × (length synthesized.old ≡ nonterminals_limit) }
+) -> Result<(), TableRefusal>
+    requires { (nonterminals ≡ byte table.now 4) × (start ≡ byte table.now 5) × (res ≡ byte table.now 6) × (nonterminals ≤ nonterminals_limit) × (7 ≤ length table.now) }
     ensures read { CountsRead table.now nonterminals inherited.new synthesized.new result }
     ensures kept { (length inherited.new ≡ nonterminals_limit) × (length synthesized.new ≡ nonterminals_limit) }
 {
-    let mut n: usize = 0;
-    while n < nonterminals {
+    for n in 0..nonterminals {
         let at = 7 + 5 * n;
-        let number = counts_number(table, at, n, start, res);
-        if number != 0 {
-            return Refusal { number, offset: at };
-        }
+        let offset = at as u32;
+        judge_counts(table, at, n, start, res).map_err(|fault| TableRefusal { fault, offset })?;
         inherited[n] = table[at + 3];
         synthesized[n] = table[at + 4];
-        n += 1;
     }
-    Refusal {
-        number: 0,
-        offset: 0,
-    }
+    Ok(())
 }

@@ -2,78 +2,61 @@
 #![tactic(auto)]
 
 ghost use Rattle.std.specs.Prelude.{◌≡◌};
+ghost use Rattle.refusals.specs.Numbers.{fault_or_zero};
 ghost use Rattle.table_fields.specs.Judge.{header_fault, counts_fault, carrier_fault};
 
 use limits::{ATTRIBUTES, NONTERMINALS, TERMINALS};
+use refusals::TableFault;
 
-// The lowest number that applies to the body of a tag 1 field, or 0.
-pub fn header_fault(body: &[u8]) -> u8
-    ensures { result ≡ header_fault body.now }
+// The lowest fault that applies to the body of a tag 1 field.
+#[tactic(auto, using(std::proofs::lemmas::Bool::Decides::nat_tests), unfolding(table_fields::specs::Judge::header_fault, table_fields::specs::Demand::equal, table_fields::specs::Demand::at_most, table_fields::specs::Demand::below))]
+pub fn header_fault(body: &[u8]) -> Result<(), TableFault>
+    ensures { fault_or_zero result ≡ header_fault body.now }
 {
-    if body.len() != 4 {
-        return 4;
+    let &[terminals, nonterminals, start, _] = body else {
+        return Err(TableFault::OutsideLimits);
+    };
+    let terminals = usize::from(terminals);
+    let nonterminals = usize::from(nonterminals);
+    if !(1..=TERMINALS).contains(&terminals) || !(1..=NONTERMINALS).contains(&nonterminals) {
+        return Err(TableFault::OutsideLimits);
     }
-    let terminals = table_fields::wide(body[0]);
-    if terminals < 1 {
-        return 4;
+    if nonterminals <= usize::from(start) {
+        return Err(TableFault::Unknown);
     }
-    if TERMINALS < terminals {
-        return 4;
-    }
-    let nonterminals = table_fields::wide(body[1]);
-    if nonterminals < 1 {
-        return 4;
-    }
-    if NONTERMINALS < nonterminals {
-        return 4;
-    }
-    let start = table_fields::wide(body[2]);
-    if nonterminals <= start {
-        return 5;
-    }
-    0
+    Ok(())
 }
 
-// The lowest number that applies to the body of the tag 2 field of nonterminal n, or 0.
-pub fn counts_fault(n: usize, start: usize, res: usize, body: &[u8]) -> u8
-    ensures { result ≡ counts_fault n start res body.now }
+// The lowest fault that applies to the body of the tag 2 field of nonterminal n.
+#[tactic(auto, using(std::proofs::lemmas::Bool::Decides::nat_tests), unfolding(table_fields::specs::Judge::counts_fault, table_fields::specs::Demand::equal, table_fields::specs::Demand::at_most, table_fields::specs::Demand::if_equal))]
+pub fn counts_fault(n: usize, start: usize, res: usize, body: &[u8]) -> Result<(), TableFault>
+    ensures { fault_or_zero result ≡ counts_fault n start res body.now }
 {
-    if body.len() != 2 {
-        return 4;
-    }
-    let inherited = table_fields::wide(body[0]);
-    let synthesized = table_fields::wide(body[1]);
+    let &[inherited, synthesized] = body else {
+        return Err(TableFault::OutsideLimits);
+    };
+    let inherited = usize::from(inherited);
+    let synthesized = usize::from(synthesized);
     if ATTRIBUTES < inherited + synthesized {
-        return 4;
+        return Err(TableFault::OutsideLimits);
     }
-    if n != start {
-        return 0;
+    if n == start && (inherited != 0 || res < 1 || synthesized < res) {
+        return Err(TableFault::StartAttributes);
     }
-    if inherited != 0 {
-        return 6;
-    }
-    if res < 1 {
-        return 6;
-    }
-    if synthesized < res {
-        return 6;
-    }
-    0
+    Ok(())
 }
 
-// The lowest number that applies to the body of a tag 6 field, or 0. The terminals from `least` on are above the one before.
-pub fn carrier_fault(terminals: usize, least: usize, body: &[u8]) -> u8
-    ensures { result ≡ carrier_fault terminals least body.now }
+// The lowest fault that applies to the body of a tag 6 field. The terminals from `least` on are above the one before.
+#[tactic(auto, using(std::proofs::lemmas::Bool::Decides::nat_tests), unfolding(table_fields::specs::Judge::carrier_fault, table_fields::specs::Demand::equal, table_fields::specs::Demand::at_most, table_fields::specs::Demand::below))]
+pub fn carrier_fault(terminals: usize, least: usize, body: &[u8]) -> Result<(), TableFault>
+    ensures { fault_or_zero result ≡ carrier_fault terminals least body.now }
 {
-    if body.len() != 1 {
-        return 4;
+    let &[terminal] = body else {
+        return Err(TableFault::OutsideLimits);
+    };
+    let terminal = usize::from(terminal);
+    if terminals <= terminal || terminal < least {
+        return Err(TableFault::Unknown);
     }
-    let terminal = table_fields::wide(body[0]);
-    if terminals <= terminal {
-        return 5;
-    }
-    if terminal < least {
-        return 5;
-    }
-    0
+    Ok(())
 }

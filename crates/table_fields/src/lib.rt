@@ -4,8 +4,10 @@
 ghost use Rattle.std.specs.Prelude.{◌≡◌, ◌+◌, ◌<◌, ◌≤◌, length};
 ghost use Rattle.table_fields.specs.Field.{Whole, Short};
 ghost use Rattle.table_fields.specs.Judge.{head_fault};
+ghost use Rattle.refusals.specs.Numbers.{fault_or_zero};
 
 use limits::{PRODUCTIONS, SYMBOLS};
+use refusals::TableFault;
 
 pub fn wide(x: u8) -> usize
     ensures { (result ≡ x) × (result < 256) }
@@ -35,26 +37,20 @@ pub fn size_at(table: &[u8], at: usize) -> usize
     size
 }
 
-// The lowest number that applies to the body of a tag 3 field after p others, but for its symbols on the right, or 0.
-pub fn head_fault(nonterminals: usize, p: usize, body: &[u8]) -> u8
-    ensures { result ≡ head_fault nonterminals p body.now }
+// The lowest fault of the body of a tag 3 field after p others, but for its symbols on the right.
+#[tactic(auto, unfolding(crate::specs::Judge::head_fault, crate::specs::Demand::at_most, crate::specs::Demand::equal, crate::specs::Demand::below))]
+pub fn head_fault(nonterminals: usize, p: usize, body: &[u8]) -> Result<(), TableFault>
+    ensures { fault_or_zero result ≡ head_fault nonterminals p body.now }
 {
     if body.len() < 2 {
-        return 4;
+        return Err(TableFault::OutsideLimits);
     }
     let right = wide(body[1]);
-    if SYMBOLS < right {
-        return 4;
+    if SYMBOLS < right || body.len() != 2 + right || PRODUCTIONS <= p {
+        return Err(TableFault::OutsideLimits);
     }
-    if body.len() != 2 + right {
-        return 4;
+    if nonterminals <= wide(body[0]) {
+        return Err(TableFault::Unknown);
     }
-    if PRODUCTIONS <= p {
-        return 4;
-    }
-    let left = wide(body[0]);
-    if nonterminals <= left {
-        return 5;
-    }
-    0
+    Ok(())
 }

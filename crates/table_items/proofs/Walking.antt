@@ -19,8 +19,13 @@ use Rattle.table_rules.specs.Note.{Notes, rules_after, GapsAnswered}
 use Rattle.table_rule_fields.proofs.RuleJudged.{rule_judged}
 use Rattle.table_rule_fields.proofs.conditions.ConditionJudged.{condition_judged}
 use Rattle.table_rule_fields.proofs.note.Noting.{notes_fine}
+use Rattle.std.specs.Prelude.{Result, Err, IfOk}
+use Rattle.refusals.specs.declared.TableFault.{TableFault}
+use Rattle.refusals.specs.Numbers.{fault_number}
+use Rattle.table_rules.proofs.Faults.{fault_some}
 use Rattle.table_items.specs.declared.Items.{Items}
-use Rattle.table_items.specs.Progress.{Over, Setting, setting_of, Around, state_in, ItemTaken, Walked, Walking, ItemsRead, ItemRead, refused_after, Next, end_of}
+use Rattle.table_items.specs.declared.Refused.{Refused}
+use Rattle.table_items.specs.Progress.{Over, Setting, setting_of, Around, state_in, ItemTaken, Walked, Walking, ItemsRead, OneRead, ItemRead, Next, end_of, place_of}
 use Rattle.table_counts.proofs.Steps.{end_by}
 use Rattle.table_fields.proofs.Cases.{lt_or_le, nonzero}
 
@@ -136,16 +141,10 @@ module _ (t : List ℕ) (from offset width : ℕ) (inh syn : List ℕ) (r₀ c�
 
   module _ (note : List ℕ) (at r c : ℕ) (w : Walking t from offset width inh syn r₀ c₀ note₀ note at r c) where
     module _ (size : ℕ) (note' : List ℕ) (number : ℕ) (j : ItemTaken t at size r c width inh syn note note' number) where
-      pub walk_refused :
-          (number ≡ 0 → ⊥) → (start p q : ℕ) → Walked s start p q note₀ from r₀ c₀
-          → ItemsRead s start p q (refused_after (record { number = 0; at = at; rules = r; conditions = c }) number)
-      walk_refused n start p q h a =
-          let m = w.walked start p q h a in (
-            m.0,
-            m.1,
-            m.3 ∙ j.read offset a m.0 m.1 m.2 ∙ judged_refused number at _ n ∙ sym (judged_refused number at _ n),
-            λ z. absurd (n z),
-          )
+      pub walk_refused : (f : TableFault) → number ≡ fault_number f → (start p q : ℕ) → Walked s start p q note₀ from r₀ c₀ → ItemsRead s start p q (Err (record { fault = f; at = at }))
+      walk_refused f e start p q h a =
+          let m = w.walked start p q h a in
+          m.3 ∙ j.read offset a m.0 m.1 m.2 ∙ judged_refused number at _ (λ z. fault_some f (sym e ∙ z)) ∙ ap (λ (x : ℕ). malformed x at) e
 
       module _ (fine : number ≡ 0) where
         abbrev b' : List ℕ
@@ -228,34 +227,30 @@ module _ (t : List ℕ) (from offset width : ℕ) (inh syn : List ℕ) (r₀ c�
               ∙ ap (end_by (state_in s a rs cds r c) at) (stage_any a.header a.counts a.offsets a.named (entry_of offset a.left a.right rs cds) a.others r c a.all)
               ∙ ap (λ x. elim x [ true ↦ well_formed (state_in s a rs cds r c) | false ↦ malformed 8 offset ]) e
 
-      pub record Ended (u : Items) : Type 0 where
+      pub record Ended (u : Result Items Refused) : Type 0 where
         pub read : (start p q : ℕ) → Walked s start p q note₀ from r₀ c₀ → ItemsRead s start p q u
-        pub next : u.number ≡ 0 → Next t from u
-        pub inside : u.at ≤ length t
+        pub next : IfOk u (λ v. Next t from v)
+        pub inside : place_of u ≤ length t
 
       walk_end : (x : Bool) → gap ≡ x → offset ≤ length t → Ended (end_of x offset at r c)
       walk_end false e l =
           record {
             read = λ start p q h a.
                 let m = w.walked start p q h a in
-                (m.0, m.1, m.3 ∙ sym (judged_fine 0 at _ refl), λ z. not-false (last_complete (state_in s a m.0 m.1 r c)) (sym (gap_in a m.0 m.1 m.2) ∙ e));
-            next = λ z. record { after = w.after; inside = w.inside; over = over; rules = w.rules; conditions = w.conditions };
+                (m.0, m.1, m.3, not-false (last_complete (state_in s a m.0 m.1 r c)) (sym (gap_in a m.0 m.1 m.2) ∙ e));
+            next = record { after = w.after; inside = w.inside; over = over; rules = w.rules; conditions = w.conditions };
             inside = w.inside;
           }
       walk_end true e l =
           record {
             read = λ start p q h a.
-                let m = w.walked start p q h a in (
-                  m.0,
-                  m.1,
-                  m.3 ∙ missing a m.0 m.1 (not-true (last_complete (state_in s a m.0 m.1 r c)) (sym (gap_in a m.0 m.1 m.2) ∙ e)) ∙ sym (judged_refused 8 offset _ (nonzero 7)),
-                  λ z. absurd (nonzero 7 z),
-                );
-            next = λ z. absurd (nonzero 7 z);
+                let m = w.walked start p q h a in
+                m.3 ∙ missing a m.0 m.1 (not-true (last_complete (state_in s a m.0 m.1 r c)) (sym (gap_in a m.0 m.1 m.2) ∙ e));
+            next = tt;
             inside = l;
           }
 
-      pub walk_over : (u : Items) → u ≡ end_of gap offset at r c → offset ≤ length t → Ended u
+      pub walk_over : (u : Result Items Refused) → u ≡ end_of gap offset at r c → offset ≤ length t → Ended u
       walk_over u q l = subst Ended (sym q) (walk_end gap refl l)
 
 -- ---- one field more
@@ -279,33 +274,25 @@ module _ (t : List ℕ) (done : Items) (size width : ℕ) (inh syn note note' : 
   start_here : (offset : ℕ) → Walking t done.at offset width inh syn done.rules done.conditions note note done.at done.rules done.conditions
   start_here offset = walk_start t done.at offset width inh syn done.rules done.conditions note (omega arith) rules conditions
 
-  pub item_refused : (number ≡ 0 → ⊥) → ItemRead t done width inh syn note note' (refused_after done number)
-  item_refused n =
-      record {
-        refused = λ m offset. walk_refused t _ offset width inh syn _ _ note note _ _ _ (start_here offset) size note' number j n;
-        onward = λ z. absurd (n z);
-        further = λ z. absurd (n z);
-        inside = omega arith;
-      }
+  pub item_refused : (f : TableFault) → number ≡ fault_number f → ItemRead t done width inh syn note note' (Err (record { fault = f; at = done.at }))
+  item_refused f e = ((λ offset. walk_refused t _ offset width inh syn _ _ note note _ _ _ (start_here offset) size note' number j f e), omega arith)
 
   module _ (fine : number ≡ 0) where
     further : done.at < done.at + 3 + size
     further = omega arith
 
-    pub item_rule : byte t done.at ≡ 4 → ItemRead t done width inh syn note note' (record { number = 0; at = done.at + 3 + size; rules = done.rules + 1; conditions = done.conditions })
+    pub item_rule : byte t done.at ≡ 4 → OneRead t done width inh syn note note' (record { at = done.at + 3 + size; rules = done.rules + 1; conditions = done.conditions })
     item_rule tag =
         record {
-          refused = λ m. absurd (m refl);
-          onward = λ z offset. walk_rule t _ offset width inh syn _ _ note note _ _ _ (start_here offset) size note' number j fine tag;
-          further = λ z. further;
+          onward = λ offset. walk_rule t _ offset width inh syn _ _ note note _ _ _ (start_here offset) size note' number j fine tag;
+          further = further;
           inside = (j.whole fine).inside;
         }
 
-    pub item_condition : (byte t done.at ≡ 4 → ⊥) → ItemRead t done width inh syn note note' (record { number = 0; at = done.at + 3 + size; rules = done.rules; conditions = done.conditions + 1 })
+    pub item_condition : (byte t done.at ≡ 4 → ⊥) → OneRead t done width inh syn note note' (record { at = done.at + 3 + size; rules = done.rules; conditions = done.conditions + 1 })
     item_condition n =
         record {
-          refused = λ m. absurd (m refl);
-          onward = λ z offset. walk_condition t _ offset width inh syn _ _ note note _ _ _ (start_here offset) size note' number j fine n;
-          further = λ z. further;
+          onward = λ offset. walk_condition t _ offset width inh syn _ _ note note _ _ _ (start_here offset) size note' number j fine n;
+          further = further;
           inside = (j.whole fine).inside;
         }

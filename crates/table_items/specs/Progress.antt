@@ -1,11 +1,14 @@
 -- Where the reader stands between two fields of a production.
-use Rattle.std.specs.Prelude.{ℕ, ◌+◌, ◌≤◌, ◌<◌, ◌≡◌, Bool, true, false, List, [], ◌∷◌, length}
+use Rattle.std.specs.Prelude.{ℕ, ◌+◌, ◌≤◌, ◌<◌, ◌≡◌, Bool, true, false, List, [], ◌∷◌, length, Result, Ok, Err}
 use Rattle.meaning.specs.Grammar.{Counts, Symbol, Rule, Condition, Occurrence}
-use Rattle.meaning.specs.Table.{byte, Header, State, Entry, current, last_complete, read_field, kind_of}
+use Rattle.meaning.specs.Table.{byte, Header, State, Entry, malformed, current, last_complete, read_field, kind_of}
 use Rattle.table_fields.specs.Reads.{state_of, entry_of}
 use Rattle.table_fields.specs.Field.{Whole, Short, rest, judged, body_at}
 use Rattle.table_rules.specs.Note.{Placed, Notes}
 use Rattle.table_items.specs.declared.Items.{Items}
+use Rattle.table_items.specs.declared.Refused.{Refused}
+use Rattle.refusals.specs.declared.TableFault.TheVariants.{NotOneRule}
+use Rattle.refusals.specs.Numbers.{fault_number}
 
 -- the size that `size_at` gives
 abbrev pub Sized : List ℕ → ℕ → ℕ → Type 0
@@ -77,27 +80,34 @@ pub record Walking (t : List ℕ) (from offset width : ℕ) (inh syn : List ℕ)
       → Walked (setting_of t offset width inh syn) start p q note at r c
 
 -- all rules and conditions of the production read, or a refusal
-abbrev pub ItemsRead : Setting → ℕ → ℕ → ℕ → Items → Type 0
-ItemsRead g from r₀ c₀ u =
+abbrev pub ItemsRead : Setting → ℕ → ℕ → ℕ → Result Items Refused → Type 0
+ItemsRead g from r₀ c₀ (Ok u) =
     (a : Around g)
     → (rs : List (Rule Occurrence)) × (cds : List (Condition Occurrence))
-    × (rest g.table (state_in g a [] [] r₀ c₀) from ≡ judged u.number u.at (rest g.table (state_in g a rs cds u.rules u.conditions) u.at))
-    × (u.number ≡ 0 → last_complete (state_in g a rs cds u.rules u.conditions) ≡ true)
+    × (rest g.table (state_in g a [] [] r₀ c₀) from ≡ rest g.table (state_in g a rs cds u.rules u.conditions) u.at)
+    × (last_complete (state_in g a rs cds u.rules u.conditions) ≡ true)
+ItemsRead g from r₀ c₀ (Err x) = (a : Around g) → rest g.table (state_in g a [] [] r₀ c₀) from ≡ malformed (fault_number x.fault) x.at
 
 -- the same from one of its fields on, with the note of those before, wherever they start
-abbrev pub ItemsReadFrom : Setting → List ℕ → ℕ → ℕ → ℕ → Items → Type 0
+abbrev pub ItemsReadFrom : Setting → List ℕ → ℕ → ℕ → ℕ → Result Items Refused → Type 0
 ItemsReadFrom g note from r c u = (start r₀ c₀ : ℕ) → Walked g start r₀ c₀ note from r c → ItemsRead g start r₀ c₀ u
 
--- the field behind what was read before: one more read, or a refusal of it; the note before and after
-pub record ItemRead (t : List ℕ) (done : Items) (width : ℕ) (inh syn note note' : List ℕ) (u : Items) : Type 0 where
-  pub refused : (u.number ≡ 0 → ⊥) → (offset : ℕ) → ItemsReadFrom (setting_of t offset width inh syn) note done.at done.rules done.conditions u
-  pub onward : u.number ≡ 0 → (offset : ℕ) → Walking t done.at offset width inh syn done.rules done.conditions note note' u.at u.rules u.conditions
-  pub further : u.number ≡ 0 → done.at < u.at
+-- the field behind what was read before is read too; the note before and after
+pub record OneRead (t : List ℕ) (done : Items) (width : ℕ) (inh syn note note' : List ℕ) (u : Items) : Type 0 where
+  pub onward : (offset : ℕ) → Walking t done.at offset width inh syn done.rules done.conditions note note' u.at u.rules u.conditions
+  pub further : done.at < u.at
   pub inside : u.at ≤ length t
 
--- a refusal of the field behind what was read before
-abbrev pub refused_after : Items → ℕ → Items
-refused_after done number = record { number = number; at = done.at; rules = done.rules; conditions = done.conditions }
+-- one more read, or a refusal of it
+abbrev pub ItemRead : List ℕ → Items → ℕ → List ℕ → List ℕ → List ℕ → List ℕ → Result Items Refused → Type 0
+ItemRead t done width inh syn note note' (Ok u) = OneRead t done width inh syn note note' u
+ItemRead t done width inh syn note note' (Err x) =
+    ((offset : ℕ) → ItemsReadFrom (setting_of t offset width inh syn) note done.at done.rules done.conditions (Err x)) × (x.at ≤ length t)
+
+-- where the next production starts, or the field that is refused
+abbrev pub place_of : Result Items Refused → ℕ
+place_of (Ok u) = u.at
+place_of (Err x) = x.at
 
 -- where the next production starts
 pub record Next (t : List ℕ) (from : ℕ) (u : Items) : Type 0 where
@@ -108,6 +118,6 @@ pub record Next (t : List ℕ) (from : ℕ) (u : Items) : Type 0 where
   pub conditions : u.conditions ≤ u.at
 
 -- the end of a production with a gap or without one: 8 at its own offset, or the next offset
-abbrev pub end_of : Bool → ℕ → ℕ → ℕ → ℕ → Items
-end_of true offset at r c = record { number = 8; at = offset; rules = r; conditions = c }
-end_of false offset at r c = record { number = 0; at = at; rules = r; conditions = c }
+abbrev pub end_of : Bool → ℕ → ℕ → ℕ → ℕ → Result Items Refused
+end_of true offset at r c = Err (record { fault = NotOneRule; at = offset })
+end_of false offset at r c = Ok (record { at = at; rules = r; conditions = c })

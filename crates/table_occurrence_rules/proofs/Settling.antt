@@ -8,12 +8,13 @@ use native.Mathlib.Omega.{arith}
 use native.Mathlib.Decide.{ℕ_discrete}
 use lib.Bits.{bit_or}
 use lib.Dec.{eqb}
-use lib.ListN.{get_or, length, set, length-set}
+use lib.ListN.{get_or, set, length-set}
 use lib.Seq.{get_or-set_same, get_or-set_other}
 use borrow.Author.Tests.{ne_eqb}
 use Rattle.meaning.specs.Limits.{attributes_limit, positions_limit}
 use Rattle.meaning.specs.Table.{byte}
 use Rattle.table_fields.proofs.Cases.{lt_or_le}
+use Rattle.table_fields.specs.Demand.{if_equal, if_below}
 use Rattle.table_fields.proofs.Demands.{equal_yes, equal_no, below_yes, below_no}
 use Rattle.table_rules.specs.Rule.{bit, class_at, class_in, operand_count, OperandsFit, rule_items}
 use Rattle.table_rules.proofs.Laws.{class_first}
@@ -133,25 +134,17 @@ pub count_none : (f : ℕ) → f ≡ 0 → operand_count f ≡ 0
 unfolding operand_count
 count_none f e = sym (equal_yes _ _ _ _ e refl)
 
-pub count_copy : (f : ℕ) → f ≡ 1 → operand_count f ≡ 1
-unfolding operand_count
-count_copy f e = sym (equal_no _ _ _ _ (λ q. omega arith) (equal_yes _ _ _ _ e refl))
-
-pub count_late : (f : ℕ) → 7 ≤ f → operand_count f ≡ 1
-unfolding operand_count
-count_late f l = sym (equal_no _ _ _ _ (λ q. omega arith) (equal_no _ _ _ _ (λ q. omega arith) (below_no _ _ _ _ l refl)))
-
 pub count_two : (f : ℕ) → (f ≡ 0 → ⊥) → (f ≡ 1 → ⊥) → f < 7 → operand_count f ≡ 2
 unfolding operand_count
 count_two f n m l = sym (equal_no _ _ _ _ n (equal_no _ _ _ _ m (below_yes _ _ _ _ l refl)))
 
-pub count_some : (f : ℕ) → (f ≡ 0 → ⊥) → 1 ≤ operand_count f
-count_some f n =
-    ⊎_elim
-    (λ l. go l (ℕ_discrete f 1))
-    (λ l. let e = count_late f l in omega arith)
-    (lt_or_le f 7)
+pub count_one : (f : ℕ) → (f ≡ 0 → ⊥) → (2 ≤ f → f ≤ 6 → ⊥) → operand_count f ≡ 1
+unfolding operand_count
+count_one f n m = sym (equal_no _ _ _ _ n (go (ℕ_discrete f 1)))
   where
-    go : f < 7 → Dec (f ≡ 1) → 1 ≤ operand_count f
-    go l (yes e) = let q = count_copy f e in omega arith
-    go l (no m) = let q = count_two f n m l in omega arith
+    late : (f ≡ 1 → ⊥) → 7 ≤ f
+    late o = ⊎_elim (λ l. absurd (m (omega arith) (omega arith))) (λ l. l) (lt_or_le f 7)
+
+    go : Dec (f ≡ 1) → ◌≡◌ {A = ℕ} 1 (if_equal f 1 1 (if_below f 7 2 1))
+    go (yes e) = equal_yes _ _ _ _ e refl
+    go (no o) = equal_no _ _ _ _ o (below_no _ _ _ _ (late o) refl)

@@ -9,6 +9,7 @@ ghost use Rattle.table_occurrences.specs.OccurrenceBits.{Inputs, RuleSettled};
 
 use limits::POSITIONS;
 
+#[tactic(auto, unfolding(table_rules::specs::Rule::bit))]
 pub fn bit_of(word: u16, attribute: usize) -> bool
     requires { attribute < 16 }
     ensures { result ≡ bit word attribute }
@@ -23,33 +24,20 @@ pub fn is_input(inputs: &[u16; POSITIONS], limit: usize, body: &[u8], at: usize)
 {
     let position = table_fields::wide(body[at]);
     let attribute = table_fields::wide(body[at + 1]);
-    if limit <= position {
-        return false;
-    }
-    if 16 <= attribute {
-        return false;
-    }
-    bit_of(inputs[position], attribute)
+    position < limit && attribute < 16 && bit_of(inputs[position], attribute)
 }
 
 // True only where all operands of a rule by function f are inputs at positions below a limit.
+#[tactic(auto, unfolding(table_rules::specs::Rule::operand_count, table_fields::specs::Demand::if_equal, table_fields::specs::Demand::if_below))]
 fn are_inputs(inputs: &[u16; POSITIONS], limit: usize, body: &[u8], f: usize) -> bool
     requires { (1 ≤ limit) × (limit ≤ positions_limit) × (f ≤ 8) × (3 + 2 * operand_count f ≤ length body.now) }
     ensures { (width : ℕ) (inh syn : List ℕ) → Inputs width inh syn inputs.now → result ≡ true → OperandsFit limit width inh syn body.now (operand_count f) }
 {
-    if f == 0 {
-        return true;
+    match f {
+        0 => true,
+        2..=6 => is_input(inputs, limit, body, 3) && is_input(inputs, limit, body, 5),
+        _ => is_input(inputs, limit, body, 3),
     }
-    if !is_input(inputs, limit, body, 3) {
-        return false;
-    }
-    if f == 1 {
-        return true;
-    }
-    if 7 <= f {
-        return true;
-    }
-    is_input(inputs, limit, body, 5)
 }
 
 // Operands stand below the position of their target, unless that is the left side.
@@ -57,10 +45,7 @@ fn limit_of(position: usize) -> usize
     requires { position < positions_limit }
     ensures { (1 ≤ result) × (result ≤ positions_limit) × ((position ≡ 0 → ⊥) → result ≡ position) }
 {
-    if position == 0 {
-        return POSITIONS;
-    }
-    position
+    if position == 0 { POSITIONS } else { position }
 }
 
 // True only of a rule by function f that none of 5 to 9 applies to; then its target is settled. Else the words stay as they were.
@@ -76,17 +61,11 @@ pub fn settle(
 {
     let position = table_fields::wide(body[0]);
     let attribute = table_fields::wide(body[1]);
-    if POSITIONS <= position {
-        return false;
-    }
-    if 16 <= attribute {
+    if POSITIONS <= position || 16 <= attribute {
         return false;
     }
     let word = settled[position];
-    if bit_of(word, attribute) {
-        return false;
-    }
-    if !are_inputs(inputs, limit_of(position), body, f) {
+    if bit_of(word, attribute) || !are_inputs(inputs, limit_of(position), body, f) {
         return false;
     }
     settled[position] = word | (1u16 << attribute);

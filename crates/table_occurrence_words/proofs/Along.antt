@@ -1,12 +1,14 @@
 -- The walk along a right side, one symbol after the other.
 use Prim.Native.Nat.{ℕ, ◌+◌, ◌-◌, ◌≤◌, ◌<◌}
 use mathlib.Core.Path.{◌≡◌, refl, sym, ◌∙◌, ap, subst}
-use mathlib.Core.Bool.{Bool, true, false, true≢false}
+use mathlib.Core.Bool.{false, true≢false}
 use mathlib.Core.List.{List, map}
 use native.Mathlib.Omega.{arith}
 use lib.Bits.{bit_or}
 use lib.Dec.{T}
 use lib.ListN.{length, set, drop, length-set}
+use Rattle.std.specs.Prelude.{Option, Some, None}
+use Rattle.nonterminal_set.specs.declared.NonterminalSet.{NonterminalSet}
 use Rattle.meaning.specs.Limits.{productions_limit}
 use Rattle.meaning.specs.Table.{byte, symbol_of}
 use Rattle.table_fields.specs.Judge.{symbol_known, symbols_known}
@@ -123,37 +125,37 @@ module _ (rows₀ : List ℕ) (p : ℕ) (b : List ℕ) (terminals nonterminals c
       -- one that is not known
       pub along_unknown :
           (s : ℕ) → s ≡ byte b k → symbol_known terminals nonterminals s ≡ false
-          → RightPlaced rows₀ p b terminals nonterminals carrying inherited synthesized (set rows (start + k) (byte b k)) inputs settled false word
+          → RightPlaced rows₀ p b terminals nonterminals carrying inherited synthesized (set rows (start + k) (byte b k)) inputs settled None
       along_unknown s e not_known =
           record {
             kept = length-set rows (start + k) (byte b k) ∙ a.copied.kept;
             is_known = sym (a.known ∙ all_fail _ b k more (ap (symbol_known terminals nonterminals) (sym e) ∙ not_known));
             copied = λ q. absurd (true≢false (sym q));
-            worded = λ q. absurd (true≢false (sym q));
+            worded = tt;
             inputs_filled = λ q. absurd (true≢false (sym q));
             others_filled = λ q. absurd (true≢false (sym q));
           }
 
   pub along_end :
-      (rows inputs settled : List ℕ) (word symbol bit input other k : ℕ) → Along rows inputs settled word symbol bit input other k → length b ≤ k
-      → RightPlaced rows₀ p b terminals nonterminals carrying inherited synthesized rows inputs settled true word
+      (rows inputs settled : List ℕ) (word : NonterminalSet) (symbol bit input other k : ℕ) → Along rows inputs settled word.0 symbol bit input other k → length b ≤ k
+      → RightPlaced rows₀ p b terminals nonterminals carrying inherited synthesized rows inputs settled (Some word)
   along_end rows inputs settled word symbol bit input other k a l =
       let e : k ≡ length b = omega (arith, a.most) in
       record {
         kept = a.copied.kept;
         is_known = sym (a.known ∙ all_none _ b k l);
         copied = λ q. subst (λ (i : ℕ). Copied rows₀ p b rows i) e a.copied;
-        worded = λ q. gathered_end _ _ _ _ a.gathered (symbols_none b k l);
+        worded = gathered_end _ _ _ _ a.gathered (symbols_none b k l);
         inputs_filled = λ q width w. filled _ _ _ _ _ a.filling (omega arith);
         others_filled = λ q width w. filled _ _ _ _ _ a.filling_others (omega arith);
       }
 
 -- where the row's first two bytes were copied before
 pub placed_from :
-    (rows₀ rows₁ : List ℕ) (p : ℕ) (b : List ℕ) (terminals nonterminals carrying : ℕ) (inherited synthesized rows inputs settled : List ℕ) (known : Bool) (word : ℕ) → Copied rows₀ p b rows₁ 2
-    → RightPlaced rows₁ p b terminals nonterminals carrying inherited synthesized rows inputs settled known word
-    → RightPlaced rows₀ p b terminals nonterminals carrying inherited synthesized rows inputs settled known word
-placed_from rows₀ rows₁ p b terminals nonterminals carrying inherited synthesized rows inputs settled known word two r =
+    (rows₀ rows₁ : List ℕ) (p : ℕ) (b : List ℕ) (terminals nonterminals carrying : ℕ) (inherited synthesized rows inputs settled : List ℕ) (right : Option NonterminalSet) → Copied rows₀ p b rows₁ 2
+    → RightPlaced rows₁ p b terminals nonterminals carrying inherited synthesized rows inputs settled right
+    → RightPlaced rows₀ p b terminals nonterminals carrying inherited synthesized rows inputs settled right
+placed_from rows₀ rows₁ p b terminals nonterminals carrying inherited synthesized rows inputs settled right two r =
     record {
       kept = r.kept;
       is_known = r.is_known;

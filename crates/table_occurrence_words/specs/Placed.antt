@@ -1,5 +1,7 @@
 -- What a walk along a right side tells of each symbol, and what it leaves behind.
-use Rattle.std.specs.Prelude.{ℕ, ◌+◌, ◌≤◌, ◌<◌, ◌≡◌, Bool, true, List, length}
+use Rattle.std.specs.Prelude.{ℕ, ◌+◌, ◌≤◌, ◌<◌, ◌≡◌, true, List, length, Option, IfSome}
+use Rattle.std.specs.Option.{is_some}
+use Rattle.nonterminal_set.specs.declared.NonterminalSet.{NonterminalSet}
 use Rattle.outline.specs.Images.{rows_length, symbol_bytes}
 use Rattle.meaning.specs.Limits.{attributes_limit}
 use Rattle.meaning.specs.Table.{symbol_of}
@@ -27,11 +29,11 @@ pub record FoundAs (terminals nonterminals carrying : ℕ) (inherited synthesize
   pub inputs : (k : ℕ) → 1 ≤ k → input ≡ input_word k (count_at_value inherited s) (synthesized_at carrying synthesized s)
   pub others : (k : ℕ) → 1 ≤ k → other ≡ other_word k (count_at_value inherited s) (synthesized_at carrying synthesized s)
 
--- the right side of production p walked: whether its symbols are known, and if so its row, the word of its symbols and the words at its positions
-pub record RightPlaced (rows₀ : List ℕ) (p : ℕ) (b : List ℕ) (terminals nonterminals carrying : ℕ) (inherited synthesized rows inputs settled : List ℕ) (known : Bool) (word : ℕ) : Type 0 where
+-- the right side of production p walked: the word of its symbols if they are known, with its row and the words at its positions
+pub record RightPlaced (rows₀ : List ℕ) (p : ℕ) (b : List ℕ) (terminals nonterminals carrying : ℕ) (inherited synthesized rows inputs settled : List ℕ) (right : Option NonterminalSet) : Type 0 where
   pub kept : length rows ≡ rows_length
-  pub is_known : known ≡ symbols_known terminals nonterminals b 2
-  pub copied : known ≡ true → Copied rows₀ p b rows (length b)
-  pub worded : known ≡ true → RightWord b word
-  pub inputs_filled : known ≡ true → (width : ℕ) → width + 2 ≡ length b → Filled (input_at carrying inherited synthesized b) width 0 inputs
-  pub others_filled : known ≡ true → (width : ℕ) → width + 2 ≡ length b → Filled (other_at carrying inherited synthesized b) width 65535 settled
+  pub is_known : is_some right ≡ symbols_known terminals nonterminals b 2
+  pub copied : is_some right ≡ true → Copied rows₀ p b rows (length b)
+  pub worded : IfSome right (λ word. RightWord b word.0)
+  pub inputs_filled : is_some right ≡ true → (width : ℕ) → width + 2 ≡ length b → Filled (input_at carrying inherited synthesized b) width 0 inputs
+  pub others_filled : is_some right ≡ true → (width : ℕ) → width + 2 ≡ length b → Filled (other_at carrying inherited synthesized b) width 65535 settled

@@ -2,7 +2,7 @@
 // the outputs.
 #![tactic(auto)]
 
-ghost use Rattle.std.specs.Prelude.{◌≡◌, true, false, List, ℕ, ◌+◌, ◌-◌, ◌<◌, ◌≤◌, length, set, replicate};
+ghost use Rattle.std.specs.Prelude.{◌≡◌, false, IfNone, IfSome, List, ℕ, ◌+◌, ◌-◌, ◌<◌, ◌≤◌, length, set, replicate};
 ghost use Rattle.outline.specs.Images.{rows_length};
 ghost use Rattle.meaning.specs.Grammar.{nonterminal_base};
 ghost use Rattle.meaning.specs.Limits.{attributes_limit, positions_limit, productions_limit};
@@ -18,21 +18,13 @@ use outline::Sizes;
 use set_words::symbol_bit;
 use token_set::TokenSet;
 
-// A symbol on the right, whether it is known, its bit, and the words at its position: the inputs, and all but the outputs.
+// A symbol on the right that is known, its bit, and the words at its position: the inputs, and all but the outputs.
 #[derive(Clone, Copy)]
 pub struct Found {
     pub symbol: usize,
-    pub known: bool,
     pub bit: NonterminalSet,
     pub inputs: u16,
     pub others: u16,
-}
-
-// What a walk along a right side tells: whether its symbols are known, and the word of them.
-#[derive(Clone, Copy)]
-pub struct Right {
-    pub known: bool,
-    pub word: NonterminalSet,
 }
 
 // The inputs of a token, which has no outputs: its value, where it carries one.
@@ -40,88 +32,84 @@ fn token_word(carrying: TokenSet, symbol: usize) -> u16
     requires { symbol < nonterminal_base }
     ensures { (k : ℕ) (inherited synthesized : List ℕ) → 1 ≤ k → result ≡ input_word k (count_at_value inherited symbol) (synthesized_at carrying.0 synthesized symbol) }
 {
-    if carrying.has(symbol as u8) {
-        return 2;
-    }
-    0
+    if carrying.has(symbol as u8) { 2 } else { 0 }
 }
 
-// One that is not known; its number is no byte.
-fn unknown() -> Found
-    ensures { (result.symbol ≡ 256) × (result.known ≡ false) }
+// Before the first symbol; its number is no byte.
+// Kept: with an Option in its place the walk would ask twice at each symbol, whether one stands before it and whether that is the same.
+fn none_before() -> Found
+    ensures { result.symbol ≡ 256 }
 {
     Found {
         symbol: 256,
-        known: false,
         bit: NonterminalSet::EMPTY,
         inputs: 0,
         others: 65535,
     }
 }
 
-// A token, by its number.
-fn find_token(sizes: Sizes, symbol: usize) -> Found
+// A token, by its number, if it is known.
+fn find_token(sizes: Sizes, symbol: usize) -> Option<Found>
     requires { symbol < nonterminal_base }
-    ensures found { result.known ≡ true → ((inherited synthesized : List ℕ) → FoundAs sizes.terminals sizes.nonterminals sizes.carrying.0 inherited synthesized symbol result.bit.0 result.inputs result.others) × (result.symbol ≡ symbol) }
-    ensures other { result.known ≡ false → symbol_known sizes.terminals sizes.nonterminals symbol ≡ false }
+    ensures found { IfSome result (λ f. ((inherited synthesized : List ℕ) → FoundAs sizes.terminals sizes.nonterminals sizes.carrying.0 inherited synthesized symbol f.bit.0 f.inputs f.others) × (f.symbol ≡ symbol)) }
+    ensures other { IfNone result (symbol_known sizes.terminals sizes.nonterminals symbol ≡ false) }
 {
     if sizes.terminals <= symbol {
-        return unknown();
+        return None;
     }
     let bit = symbol_bit(symbol as u8);
     let inputs = token_word(sizes.carrying, symbol);
-    Found {
+    Some(Found {
         symbol,
-        known: true,
         bit,
         inputs,
         others: 65535,
-    }
+    })
 }
 
-// A nonterminal, by its byte.
+// A nonterminal, by its byte, if it is known.
 fn find_nonterminal(
     sizes: Sizes,
     inherited: &[u8; NONTERMINALS],
     synthesized: &[u8; NONTERMINALS],
     symbol: usize,
-) -> Found
+) -> Option<Found>
     requires { (nonterminal_base ≤ symbol) × (symbol < 256) × KnownSmall sizes.terminals sizes.nonterminals sizes.carrying.0 inherited.now synthesized.now }
-    ensures found { result.known ≡ true → FoundAs sizes.terminals sizes.nonterminals sizes.carrying.0 inherited.now synthesized.now symbol result.bit.0 result.inputs result.others × (result.symbol ≡ symbol) }
-    ensures other { result.known ≡ false → symbol_known sizes.terminals sizes.nonterminals symbol ≡ false }
+    ensures found { IfSome result (λ f. FoundAs sizes.terminals sizes.nonterminals sizes.carrying.0 inherited.now synthesized.now symbol f.bit.0 f.inputs f.others × (f.symbol ≡ symbol)) }
+    ensures other { IfNone result (symbol_known sizes.terminals sizes.nonterminals symbol ≡ false) }
 {
     if sizes.nonterminals <= symbol - 128 {
-        return unknown();
+        return None;
     }
     let bit = symbol_bit(symbol as u8);
     let i = table_fields::wide(outline::count_of(inherited, symbol));
     let s = table_fields::wide(outline::count_of(synthesized, symbol));
     let inputs = table_occurrences::range_word(i, i + s);
     let others = 65535 - table_occurrences::range_word(0, i);
-    Found {
+    Some(Found {
         symbol,
-        known: true,
         bit,
         inputs,
         others,
-    }
+    })
 }
 
-// A symbol, by its byte.
+// A symbol, by its byte, if it is known.
 fn find(
     sizes: Sizes,
     inherited: &[u8; NONTERMINALS],
     synthesized: &[u8; NONTERMINALS],
     symbol: usize,
-) -> Found
+) -> Option<Found>
     requires { (symbol < 256) × KnownSmall sizes.terminals sizes.nonterminals sizes.carrying.0 inherited.now synthesized.now }
-    ensures found { result.known ≡ true → FoundAs sizes.terminals sizes.nonterminals sizes.carrying.0 inherited.now synthesized.now symbol result.bit.0 result.inputs result.others × (result.symbol ≡ symbol) }
-    ensures other { result.known ≡ false → symbol_known sizes.terminals sizes.nonterminals symbol ≡ false }
+    ensures found { IfSome result (λ f. FoundAs sizes.terminals sizes.nonterminals sizes.carrying.0 inherited.now synthesized.now symbol f.bit.0 f.inputs f.others × (f.symbol ≡ symbol)) }
+    ensures other { IfNone result (symbol_known sizes.terminals sizes.nonterminals symbol ≡ false) }
 {
     if symbol < 128 {
-        return find_token(sizes, symbol);
+        find_token(sizes, symbol)
+    } else {
+        find_nonterminal(sizes, inherited, synthesized, symbol)
     }
-    find_nonterminal(sizes, inherited, synthesized, symbol)
 }
 
 // The words of the left side.
@@ -159,8 +147,8 @@ fn put(
     settled[at] = other;
 }
 
-// The row of production p, its body as it stands in the table, up to a symbol that is not known; the word of its right side, and the words at its
-// positions. The same symbol often stands many times in a row.
+// The row of production p, its body as it stands in the table, up to a symbol that is not known; the word of its right side, if all its symbols
+// are known, and the words at its positions. The same symbol often stands many times in a row.
 fn place_right(
     rows: &mut [u8; ROWS],
     p: usize,
@@ -170,34 +158,26 @@ fn place_right(
     synthesized: &[u8; NONTERMINALS],
     inputs: &mut [u16; POSITIONS],
     settled: &mut [u16; POSITIONS],
-) -> Right
+) -> Option<NonterminalSet>
     requires { (p < productions_limit) × (2 ≤ length body.now) × (length body.now ≤ 14) × (length rows.old ≡ rows_length) × KnownSmall sizes.terminals sizes.nonterminals sizes.carrying.0 inherited.now synthesized.now
         × Filled (input_at sizes.carrying.0 inherited.now synthesized.now body.now) 0 0 inputs.old × Filled (other_at sizes.carrying.0 inherited.now synthesized.now body.now) 0 65535 settled.old }
-    ensures { RightPlaced rows.old p body.now sizes.terminals sizes.nonterminals sizes.carrying.0 inherited.now synthesized.now rows.new inputs.new settled.new result.known result.word.0 }
+    ensures { RightPlaced rows.old p body.now sizes.terminals sizes.nonterminals sizes.carrying.0 inherited.now synthesized.now rows.new inputs.new settled.new result }
 {
     let start = outline::row_start(p);
     rows[start] = body[0];
     rows[start + 1] = body[1];
     let mut word = NonterminalSet::EMPTY;
-    let mut last = unknown();
-    let mut k: usize = 2;
-    while k < body.len() {
-        let symbol = body[k];
-        rows[start + k] = symbol;
-        let at = k - 1;
-        k += 1;
-        if table_fields::wide(symbol) == last.symbol {
-            put(inputs, settled, at, last.inputs, last.others);
-            continue;
+    let mut last = none_before();
+    for k in 2..body.len() {
+        rows[start + k] = body[k];
+        let symbol = table_fields::wide(body[k]);
+        if symbol != last.symbol {
+            last = find(sizes, inherited, synthesized, symbol)?;
+            word = word.union(last.bit);
         }
-        last = find(sizes, inherited, synthesized, table_fields::wide(symbol));
-        if !last.known {
-            return Right { known: false, word };
-        }
-        word = word.union(last.bit);
-        put(inputs, settled, at, last.inputs, last.others);
+        put(inputs, settled, k - 1, last.inputs, last.others);
     }
-    Right { known: true, word }
+    Some(word)
 }
 
 // The row of production p and the word of its right side, with the words at all its positions, that of the left side among them.
@@ -210,10 +190,10 @@ pub fn read_right(
     synthesized: &[u8; NONTERMINALS],
     inputs: &mut [u16; POSITIONS],
     settled: &mut [u16; POSITIONS],
-) -> Right
+) -> Option<NonterminalSet>
     requires { (p < productions_limit) × (2 ≤ length body.now) × (length body.now ≤ 14) × (length rows.old ≡ rows_length) × KnownSmall sizes.terminals sizes.nonterminals sizes.carrying.0 inherited.now synthesized.now
         × (inputs.old ≡ replicate positions_limit 0) × (settled.old ≡ replicate positions_limit 65535) × (count_at_value inherited.now (nonterminal_base + byte body.now 0) + count_at_value synthesized.now (nonterminal_base + byte body.now 0) ≤ attributes_limit) }
-    ensures { RightPlaced rows.old p body.now sizes.terminals sizes.nonterminals sizes.carrying.0 inherited.now synthesized.now rows.new inputs.new settled.new result.known result.word.0 }
+    ensures { RightPlaced rows.old p body.now sizes.terminals sizes.nonterminals sizes.carrying.0 inherited.now synthesized.now rows.new inputs.new settled.new result }
 {
     place_left(body, inherited, synthesized, inputs, settled);
     place_right(

@@ -24,9 +24,10 @@ fn output_word(k: usize, i: usize, s: usize) -> u16
     ensures { (result ≡ output_word k i s) × (result < 512) }
 {
     if k == 0 {
-        return range_word(i, i + s);
+        range_word(i, i + s)
+    } else {
+        range_word(0, i)
     }
-    range_word(0, i)
 }
 
 // The byte of a note by the word of a position and its outputs.
@@ -48,11 +49,9 @@ pub fn note_of(
     ensures { NoteOf width inh.now syn.now settled.now result }
 {
     let mut note = table_rule_fields::note::begin();
-    let mut k: usize = 0;
-    while k <= width {
+    for k in 0..width + 1 {
         let outputs = output_word(k, table_fields::wide(inh[k]), table_fields::wide(syn[k]));
         note[k] = note_byte(settled[k], outputs);
-        k += 1;
     }
     note
 }

@@ -27,7 +27,9 @@ use Rattle.table_fields.proofs.Demands.{holds_met, holds_not}
 use Rattle.table_fields.proofs.Walks.{all_each}
 use Rattle.table_rules.specs.Rule.{Small}
 use Rattle.table_rules.specs.Note.{symbol_in}
+use Rattle.std.specs.Prelude.{Result, Ok, Err, IfOk}
 use Rattle.table_items.specs.declared.Items.{Items}
+use Rattle.table_items.specs.declared.Refused.{Refused}
 use Rattle.table_counts.specs.Counted.{SmallCounts, counts_up_to}
 use Rattle.outline.specs.Outline.{Carries}
 use Rattle.table.specs.Laid.{Numbered}
@@ -326,9 +328,8 @@ module _ (t : List ℕ) (at w carrying : ℕ) (inherited synthesized inh syn par
   right_long : length (right_in t at) ≡ w
   right_long = length-map (drop 2 (body_in t at)) symbol_of ∙ length-drop 2 (body_in t at) ∙ omega (arith, body_long)
 
-  pub body_read : (r₀ c₀ : ℕ) (u : Items) → ItemsRead (setting_of t at w inh syn) (at + 5 + w) r₀ c₀ u → BodyRead t at carrying inherited synthesized r₀ c₀ u
-  body_read r₀ c₀ u f h cs os ws es all agree =
-      let a : Around (setting_of t at w inh syn) =
+  abbrev around : (h : Header) (cs : List Counts) (os ws : List ℕ) (es : List Entry) → h.nonterminals ≤ length cs → CountsAgree t at carrying inherited synthesized cs ws → Around (setting_of t at w inh syn)
+  around h cs os ws es all agree =
       record {
         header = h;
         counts = cs;
@@ -344,9 +345,15 @@ module _ (t : List ℕ) (at w carrying : ℕ) (inherited synthesized inh syn par
           synthesizes = λ k l. at_place (synthesized_at carrying synthesized) syn q k l ∙ agree.synthesizes k (omega arith);
         };
       }
-      in
-      let m = f a in
-      (m.0, m.1, ap (λ (i : ℕ). rest t (state_of h cs os ws (entry_of at (left_in t at) (right_in t at) [] [] ∷ es) r₀ c₀) (at + 5 + i)) (sym is-width) ∙ m.2, m.3)
+
+  start_same : (h : Header) (cs : List Counts) (os ws : List ℕ) (es : List Entry) (r₀ c₀ : ℕ)
+      → rest t (state_of h cs os ws (entry_of at (left_in t at) (right_in t at) [] [] ∷ es) r₀ c₀) (at + 5 + width_in t at)
+      ≡ rest t (state_of h cs os ws (entry_of at (left_in t at) (right_in t at) [] [] ∷ es) r₀ c₀) (at + 5 + w)
+  start_same h cs os ws es r₀ c₀ = ap (λ (i : ℕ). rest t (state_of h cs os ws (entry_of at (left_in t at) (right_in t at) [] [] ∷ es) r₀ c₀) (at + 5 + i)) (sym is-width)
+
+  pub body_read : (r₀ c₀ : ℕ) (u : Result Items Refused) → ItemsRead (setting_of t at w inh syn) (at + 5 + w) r₀ c₀ u → BodyRead t at carrying inherited synthesized r₀ c₀ u
+  body_read r₀ c₀ (Ok u) f = λ h cs os ws es all agree. let m = f (around h cs os ws es all agree) in (m.0, m.1, start_same h cs os ws es r₀ c₀ ∙ m.2, m.3)
+  body_read r₀ c₀ (Err x) f = λ h cs os ws es all agree. start_same h cs os ws es r₀ c₀ ∙ f (around h cs os ws es all agree)
 
 -- ---- sound rules and conditions, by lists of counts
 
@@ -358,11 +365,11 @@ placed_by f b = record { each = λ k l. get_d_count_from (λ j. f (symbol_byte b
 
 pub sound_body :
     (t : List ℕ) (at carrying : ℕ) (inherited synthesized : List ℕ) (r₀ c₀ end r c : ℕ) → at + 5 + width_in t at ≤ length t → SmallBody t at carrying inherited synthesized
-    → BodySound t at carrying inherited synthesized r₀ c₀ end r c → BodyRead t at carrying inherited synthesized r₀ c₀ (done end r c)
+    → BodySound t at carrying inherited synthesized r₀ c₀ end r c → BodyRead t at carrying inherited synthesized r₀ c₀ (Ok (done end r c))
 sound_body t at carrying inherited synthesized r₀ c₀ end r c long small b =
     let p = placed_by (count_at_value inherited) (body_in t at) in
     let q = placed_by (synthesized_at carrying synthesized) (body_in t at) in
-    body_read t at (width_in t at) carrying inherited synthesized _ _ (body_in t at) refl refl long p q r₀ c₀ (done end r c)
+    body_read t at (width_in t at) carrying inherited synthesized _ _ (body_in t at) refl refl long p q r₀ c₀ (Ok (done end r c))
     (b.read _ _ p q (body_small t at (width_in t at) carrying inherited synthesized _ _ (body_in t at) refl refl long p q small))
 
 -- what is taken by a walk, by the words at the positions
@@ -378,7 +385,7 @@ body_walked t at w carrying inherited synthesized inputs words₀ words r₀ c�
 pub taken_body :
     (t : List ℕ) (at w carrying : ℕ) (inherited synthesized inh syn part : List ℕ) → w ≡ width_in t at → part ≡ body_in t at → at + 5 + width_in t at ≤ length t
     → Written (count_at_value inherited) part inh → Written (synthesized_at carrying synthesized) part syn → SmallBody t at carrying inherited synthesized
-    → (words made : List ℕ) (end r c : ℕ) (u : Items) → NoteOf w inh syn words made → ItemsReadFrom (setting_of t at w inh syn) made end r c u
+    → (words made : List ℕ) (end r c : ℕ) (u : Result Items Refused) → NoteOf w inh syn words made → ItemsReadFrom (setting_of t at w inh syn) made end r c u
     → (r₀ c₀ : ℕ) → BodyTaken t at carrying inherited synthesized r₀ c₀ words end r c → BodyRead t at carrying inherited synthesized r₀ c₀ u
 taken_body t at w carrying inherited synthesized inh syn part is-width is_IsBody long p q small words made end r c u of f r₀ c₀ b =
     let p' = subst (λ x. Written (count_at_value inherited) x inh) is_IsBody p in
@@ -389,5 +396,9 @@ taken_body t at w carrying inherited synthesized inh syn part is-width is_IsBody
     body_read t at w carrying inherited synthesized inh syn part is-width is_IsBody long p q r₀ c₀ u
     (f (at + 5 + w) r₀ c₀ (λ a. let x = walked a in (x.0, x.1, of b.note x.0 words-by x.2, x.3)))
 
-pub next_sooner : (t : List ℕ) (a b : ℕ) (u : Items) → a ≤ b → Next t b u → Next t a u
-next_sooner t a b u l n = record { after = omega (arith, n.after); inside = n.inside; over = n.over; rules = n.rules; conditions = n.conditions }
+next_before : (t : List ℕ) (a b : ℕ) (u : Items) → a ≤ b → Next t b u → Next t a u
+next_before t a b u l n = record { after = omega (arith, n.after); inside = n.inside; over = n.over; rules = n.rules; conditions = n.conditions }
+
+pub next_sooner : (t : List ℕ) (a b : ℕ) (u : Result Items Refused) → a ≤ b → IfOk u (λ v. Next t b v) → IfOk u (λ v. Next t a v)
+next_sooner t a b (Ok u) l n = next_before t a b u l n
+next_sooner t a b (Err x) l n = tt

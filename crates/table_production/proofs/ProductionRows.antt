@@ -7,13 +7,19 @@ use native.Mathlib.Omega.{arith}
 use lib.ListN.{length, get_or, drop, set, length-set, length-map, length-drop}
 use lib.Seq.{get_or-set_same, get_or-set_other}
 use Rattle.meaning.specs.Grammar.{Counts, Symbol, terminal}
-use Rattle.meaning.specs.Table.{byte, State, Entry, no_entry, well_formed, malformed, stage, at_any, at_first, last_complete, symbol_of, current}
+use Rattle.meaning.specs.Table.{byte, State, Entry, well_formed, malformed, stage, at_any, at_first, last_complete, symbol_of, current}
 use Rattle.outline.specs.Images.{row_start}
 use Rattle.table_fields.specs.Field.{rest}
 use Rattle.table_fields.specs.Reads.{state_of, entry_of}
 use Rattle.table_fields.proofs.Rest.{rest_end, judged_fine, judged_refused, body_byte}
 use Rattle.table_fields.proofs.Judged.{stage_later}
+use Rattle.std.specs.Prelude.{Ok, Err}
+use Rattle.refusals.specs.declared.TableFault.{TableFault}
+use Rattle.refusals.specs.declared.TableRefusal.{TableRefusal}
+use Rattle.refusals.specs.Numbers.{fault_number}
+use Rattle.table_rules.proofs.Faults.{fault_some}
 use Rattle.table_items.specs.declared.Items.{Items}
+use Rattle.table_items.specs.declared.Refused.{Refused}
 use Rattle.table_counts.specs.Counted.{header_in, counts_up_to, offsets_up_to}
 use Rattle.outline.specs.Outline.{Carries}
 use Rattle.table.specs.Laid.{named, RowOf, Laid}
@@ -50,18 +56,14 @@ module _ (t : List ℕ) (at p terminals nonterminals carrying : ℕ) (inherited 
   cs = counts_up_to inherited synthesized nonterminals
 
   pub production_refused :
-      (rows : List ℕ) → (number ≡ 0 → ⊥) → at ≤ length t → length rows ≡ 2048
-      → ProductionRead t at p terminals nonterminals carrying inherited synthesized rows₀ offsets₀ r₀ c₀ rows offsets₀ (record { number = number; at = at; rules = r₀; conditions = c₀ })
-  production_refused rows n inside long =
+      (rows : List ℕ) (f : TableFault) → number ≡ fault_number f → at ≤ length t → length rows ≡ 2048
+      → ProductionRead t at p terminals nonterminals carrying inherited synthesized rows₀ offsets₀ r₀ c₀ rows offsets₀ (Err (record { fault = f; offset = at }))
+  production_refused rows f e inside long =
       record {
-        read = λ h os ws es tm nt len done laid held. (
-          no_entry,
-          j.read h cs os ws es r₀ c₀ tm nt (omega (arith, length_counts inherited synthesized nonterminals)) len done ∙ judged_refused number at _ n ∙ sym (judged_refused number at _ n),
-          (λ z. absurd (n z)),
-          λ z. absurd (n z),
-        );
-        next = λ z. absurd (n z);
-        few = λ z. absurd (n z);
+        read = λ h os ws es tm nt len done laid held.
+            j.read h cs os ws es r₀ c₀ tm nt (omega (arith, length_counts inherited synthesized nonterminals)) len done ∙ judged_refused number at _ (λ z. fault_some f (sym e ∙ z)) ∙ ap (λ (x : ℕ). malformed x at) e;
+        next = tt;
+        few = tt;
         inside = inside;
         kept = (long, long-offsets);
       }
@@ -95,22 +97,36 @@ module _ (t : List ℕ) (at p terminals nonterminals carrying : ℕ) (inherited 
         }
 
     pub production_read :
-        (u : Items) → BodyRead t at carrying inherited synthesized r₀ c₀ u → (u.number ≡ 0 → Next t (at + 5) u) → u.at ≤ length t
-        → ProductionRead t at p terminals nonterminals carrying inherited synthesized rows₀ offsets₀ r₀ c₀ rows (set offsets₀ p at) u
-    production_read u body next inside =
+        (v : Items) → BodyRead t at carrying inherited synthesized r₀ c₀ (Ok v) → Next t (at + 5) v → v.at ≤ length t
+        → ProductionRead t at p terminals nonterminals carrying inherited synthesized rows₀ offsets₀ r₀ c₀ rows (set offsets₀ p at) (Ok v)
+    production_read v body next inside =
         record {
           read = λ h os ws es tm nt len done laid held.
               let m = body h cs os ws es (omega (arith, nt, length_counts inherited synthesized nonterminals)) (counts_agree t at p terminals nonterminals carrying inherited synthesized known ws held) in (
                 entry_of at (left_in t at) (right_in t at) m.0 m.1,
                 j.read h cs os ws es r₀ c₀ tm nt (omega (arith, length_counts inherited synthesized nonterminals)) len done ∙ judged_fine number at _ fine ∙ m.2,
                 m.3,
-                λ z. (
+                (
                   subst (λ (n : ℕ). RowOf rows (set offsets₀ p at) n (entry_of at (left_in t at) (right_in t at) m.0 m.1)) (sym len) (row_is (entry_of at (left_in t at) (right_in t at) m.0 m.1) refl refl refl),
                   laid_kept rows₀ rows offsets₀ p at copied.before es (omega (arith, len)) laid,
                 ),
               );
           next = next;
-          few = λ z. known.few;
+          few = known.few;
+          inside = inside;
+          kept = (copied.kept, length-set offsets₀ p at ∙ long-offsets);
+        }
+
+    pub production_stopped :
+        (x : Refused) → BodyRead t at carrying inherited synthesized r₀ c₀ (Err x) → x.at ≤ length t
+        → ProductionRead t at p terminals nonterminals carrying inherited synthesized rows₀ offsets₀ r₀ c₀ rows (set offsets₀ p at) (Err (record { fault = x.fault; offset = x.at }))
+    production_stopped x body inside =
+        record {
+          read = λ h os ws es tm nt len done laid held.
+              j.read h cs os ws es r₀ c₀ tm nt (omega (arith, length_counts inherited synthesized nonterminals)) len done ∙ judged_fine number at _ fine
+              ∙ body h cs os ws es (omega (arith, nt, length_counts inherited synthesized nonterminals)) (counts_agree t at p terminals nonterminals carrying inherited synthesized known ws held);
+          next = tt;
+          few = tt;
           inside = inside;
           kept = (copied.kept, length-set offsets₀ p at ∙ long-offsets);
         }
@@ -154,39 +170,41 @@ module _ (t : List ℕ) (from n carrying : ℕ) (inherited synthesized : List �
       }
 
   module _ (rows offsets : List ℕ) (p at r c : ℕ) (w : Reached t from n carrying inherited synthesized rows offsets p at r c) where
-    module _ (is-n : n ≡ byte t 4) (terminals : ℕ) (tm : terminals ≡ byte t 3) (rows' offsets' : List ℕ) (u : Items) (m : ProductionRead t at p terminals n carrying inherited synthesized rows offsets r c rows' offsets' u) where
-      pub reached_refused : (u.number ≡ 0 → ⊥) → (ws : List ℕ) → Carries carrying (reverse ws) → rest t (named t inherited synthesized n ws) from ≡ malformed u.number u.at
-      reached_refused z ws held =
+    module _ (is-n : n ≡ byte t 4) (terminals : ℕ) (tm : terminals ≡ byte t 3) (rows' offsets' : List ℕ) where
+      pub reached_refused :
+          (x : TableRefusal) → ProductionRead t at p terminals n carrying inherited synthesized rows offsets r c rows' offsets' (Err x) → (ws : List ℕ) → Carries carrying (reverse ws)
+          → rest t (named t inherited synthesized n ws) from ≡ malformed (fault_number x.fault) x.offset
+      reached_refused x m ws held =
           let f = w.found ws held in
-          let q = m.read (header_in t) (offsets_up_to n) ws f.entries (sym tm) (sym is-n) f.count f.done f.laid held in
-          f.read ∙ q.1 ∙ judged_refused u.number u.at _ z
+          f.read ∙ m.read (header_in t) (offsets_up_to n) ws f.entries (sym tm) (sym is-n) f.count f.done f.laid held
 
-      entries_more : u.number ≡ 0 → (ws : List ℕ) → Carries carrying (reverse ws) → Entries t from n inherited synthesized ws rows' offsets' (p + 1) u.at u.rules u.conditions
-      entries_more z ws held =
-          let f = w.found ws held in
-          let q = m.read (header_in t) (offsets_up_to n) ws f.entries (sym tm) (sym is-n) f.count f.done f.laid held in
-          record {
-            entries = q.0 ∷ f.entries;
-            count = omega (arith, f.count);
-            done = q.2 z;
-            laid = q.3 z;
-            read = f.read ∙ q.1 ∙ judged_fine u.number u.at _ z;
-          }
+      module _ (u : Items) (m : ProductionRead t at p terminals n carrying inherited synthesized rows offsets r c rows' offsets' (Ok u)) where
+        entries_more : (ws : List ℕ) → Carries carrying (reverse ws) → Entries t from n inherited synthesized ws rows' offsets' (p + 1) u.at u.rules u.conditions
+        entries_more ws held =
+            let f = w.found ws held in
+            let q = m.read (header_in t) (offsets_up_to n) ws f.entries (sym tm) (sym is-n) f.count f.done f.laid held in
+            record {
+              entries = q.0 ∷ f.entries;
+              count = omega (arith, f.count);
+              done = q.2;
+              laid = q.3;
+              read = f.read ∙ q.1;
+            }
 
-      pub reached_more : u.number ≡ 0 → Reached t from n carrying inherited synthesized rows' offsets' (p + 1) u.at u.rules u.conditions
-      reached_more z =
-          let k = m.next z in
-          record {
-            inside = k.inside;
-            over = λ h. k.over;
-            other = λ l e. let three = k.over l in absurd (omega arith);
-            rules = k.rules;
-            conditions = k.conditions;
-            few = omega (arith, m.few z);
-            kept = m.kept.0;
-            kept_offsets = m.kept.1;
-            found = entries_more z;
-          }
+        pub reached_more : Reached t from n carrying inherited synthesized rows' offsets' (p + 1) u.at u.rules u.conditions
+        reached_more =
+            let k = m.next in
+            record {
+              inside = k.inside;
+              over = λ h. k.over;
+              other = λ l e. let three = k.over l in absurd (omega arith);
+              rules = k.rules;
+              conditions = k.conditions;
+              few = omega (arith, m.few);
+              kept = m.kept.0;
+              kept_offsets = m.kept.1;
+              found = entries_more;
+            }
 
     module _ (is-n : n ≡ byte t 4) (ended : length t ≤ at) (ws : List ℕ) (f : Entries t from n inherited synthesized ws rows offsets p at r c) where
       abbrev state : State

@@ -1,9 +1,14 @@
 -- Where the reader stands between two productions.
-use Rattle.std.specs.Prelude.{ℕ, ◌+◌, ◌*◌, ◌≤◌, ◌<◌, ◌≡◌, true, false, List, [], ◌∷◌, map, reverse, length, drop}
+use Rattle.std.specs.Prelude.{ℕ, ◌+◌, ◌*◌, ◌≤◌, ◌<◌, ◌≡◌, true, false, List, [], ◌∷◌, map, reverse, length, drop, Result, Ok, Err, IfOk, OnOk}
+use Rattle.std.specs.Result.{MatchResult}
+use Rattle.nonterminal_set.specs.declared.NonterminalSet.{NonterminalSet}
+use Rattle.refusals.specs.declared.TableFault.{TableFault}
+use Rattle.refusals.specs.declared.TableRefusal.{TableRefusal}
+use Rattle.refusals.specs.Numbers.{fault_number, fault_or_zero}
 use Rattle.outline.specs.Images.{rows_length}
 use Rattle.meaning.specs.Limits.{table_limit, attributes_limit, nonterminals_limit, productions_limit, symbols_limit, terminals_limit}
 use Rattle.meaning.specs.Grammar.{Counts, Symbol, Rule, Condition, Occurrence, counts_in}
-use Rattle.meaning.specs.Table.{byte, Header, Entry, last_complete, symbol_of}
+use Rattle.meaning.specs.Table.{byte, Header, Entry, malformed, last_complete, symbol_of}
 use Rattle.table_fields.specs.Field.{rest, judged, body_at}
 use Rattle.table_fields.specs.Judge.{symbol_known, symbols_known}
 use Rattle.table_fields.specs.Reads.{state_of, entry_of}
@@ -11,6 +16,7 @@ use Rattle.table_rules.specs.Note.{symbol_in}
 use Rattle.outline.specs.declared.Sizes.{Sizes}
 use Rattle.outline.specs.Outline.{Carries}
 use Rattle.table_items.specs.declared.Items.{Items}
+use Rattle.table_items.specs.declared.Refused.{Refused}
 use Rattle.table_counts.specs.Counted.{SmallCounts, counts_up_to}
 use Rattle.outline.specs.Counts.{count_at_value, synthesized_at}
 use Rattle.table_carriers.specs.Named.{NoCarrier}
@@ -65,13 +71,13 @@ abbrev pub WordsPlaced : List ℕ → ℕ → ℕ → List ℕ → List ℕ → 
 WordsPlaced t at carrying inherited synthesized inputs settled =
     Filled (input_at carrying inherited synthesized (body_in t at)) (width_in t at) 0 inputs × Filled (other_at carrying inherited synthesized (body_in t at)) (width_in t at) 65535 settled
 
--- the field of production p read: its number, and where that is 0 its row, the word of its right side and the words at its positions
-pub record FieldRead (t : List ℕ) (at p terminals nonterminals carrying : ℕ) (inherited synthesized rows₀ rows inputs settled : List ℕ) (number word : ℕ) : Type 0 where
-  pub judged : ProductionJudged t at p terminals nonterminals number
+-- the field of production p read, or its fault; where it is read its row, the word of its right side and the words at its positions
+pub record FieldRead (t : List ℕ) (at p terminals nonterminals carrying : ℕ) (inherited synthesized rows₀ rows inputs settled : List ℕ) (right : Result NonterminalSet TableFault) : Type 0 where
+  pub judged : ProductionJudged t at p terminals nonterminals (fault_or_zero right)
   pub kept : length rows ≡ rows_length
-  pub copied : number ≡ 0 → Copied rows₀ p (body_in t at) rows (length (body_in t at))
-  pub worded : number ≡ 0 → RightWord (body_in t at) word
-  pub placed : number ≡ 0 → WordsPlaced t at carrying inherited synthesized inputs settled
+  pub copied : OnOk right (Copied rows₀ p (body_in t at) rows (length (body_in t at)))
+  pub worded : IfOk right (λ word. RightWord (body_in t at) word.0)
+  pub placed : OnOk right (WordsPlaced t at carrying inherited synthesized inputs settled)
 
 -- the counts that the arrays hold at the positions of a production are at most 8 together
 abbrev pub SmallBody : List ℕ → ℕ → ℕ → List ℕ → List ℕ → Type 0
@@ -85,27 +91,33 @@ pub record CountsAgree (t : List ℕ) (at carrying : ℕ) (inherited synthesized
   pub synthesizes : (k : ℕ) → k ≤ width_in t at → synthesized_at carrying synthesized (symbol_byte (body_in t at) k) ≡ (counts_in (reverse cs) (reverse ws) (symbol_in (left_in t at) (right_in t at) k)).synthesized
 
 -- the rules and conditions of the production at an offset read, or a refusal
-abbrev pub BodyRead : List ℕ → ℕ → ℕ → List ℕ → List ℕ → ℕ → ℕ → Items → Type 0
-BodyRead t at carrying inherited synthesized r₀ c₀ u =
+abbrev pub BodyRead : List ℕ → ℕ → ℕ → List ℕ → List ℕ → ℕ → ℕ → Result Items Refused → Type 0
+BodyRead t at carrying inherited synthesized r₀ c₀ (Ok u) =
     (h : Header) (cs : List Counts) (os ws : List ℕ) (es : List Entry) → h.nonterminals ≤ length cs → CountsAgree t at carrying inherited synthesized cs ws
     → (rs : List (Rule Occurrence)) × (cds : List (Condition Occurrence))
     × (rest t (state_of h cs os ws (entry_of at (left_in t at) (right_in t at) [] [] ∷ es) r₀ c₀) (at + 5 + width_in t at)
-    ≡ judged u.number u.at (rest t (state_of h cs os ws (entry_of at (left_in t at) (right_in t at) rs cds ∷ es) u.rules u.conditions) u.at))
-    × (u.number ≡ 0 → last_complete (state_of h cs os ws (entry_of at (left_in t at) (right_in t at) rs cds ∷ es) u.rules u.conditions) ≡ true)
+    ≡ rest t (state_of h cs os ws (entry_of at (left_in t at) (right_in t at) rs cds ∷ es) u.rules u.conditions) u.at)
+    × (last_complete (state_of h cs os ws (entry_of at (left_in t at) (right_in t at) rs cds ∷ es) u.rules u.conditions) ≡ true)
+BodyRead t at carrying inherited synthesized r₀ c₀ (Err x) =
+    (h : Header) (cs : List Counts) (os ws : List ℕ) (es : List Entry) → h.nonterminals ≤ length cs → CountsAgree t at carrying inherited synthesized cs ws
+    → rest t (state_of h cs os ws (entry_of at (left_in t at) (right_in t at) [] [] ∷ es) r₀ c₀) (at + 5 + width_in t at) ≡ malformed (fault_number x.fault) x.at
 
 -- production p with all its fields read, or a refusal; rows and offsets before and after
-pub record ProductionRead (t : List ℕ) (at p terminals nonterminals carrying : ℕ) (inherited synthesized rows₀ offsets₀ : List ℕ) (r₀ c₀ : ℕ) (rows offsets : List ℕ) (u : Items) : Type 0 where
+pub record ProductionRead (t : List ℕ) (at p terminals nonterminals carrying : ℕ) (inherited synthesized rows₀ offsets₀ : List ℕ) (r₀ c₀ : ℕ) (rows offsets : List ℕ) (u : Result Items TableRefusal) : Type 0 where
   pub read :
       (h : Header) (os ws : List ℕ) (es : List Entry)
       → h.terminals ≡ terminals → h.nonterminals ≡ nonterminals → length es ≡ p → last_complete (state_of h (counts_up_to inherited synthesized nonterminals) os ws es r₀ c₀) ≡ true → Laid rows₀ offsets₀ es → Carries carrying (reverse ws)
-      → (e : Entry)
+      → MatchResult u
+      (λ v.
+      (e : Entry)
       × (rest t (state_of h (counts_up_to inherited synthesized nonterminals) os ws es r₀ c₀) at
-      ≡ judged u.number u.at (rest t (state_of h (counts_up_to inherited synthesized nonterminals) os ws (e ∷ es) u.rules u.conditions) u.at))
-      × (u.number ≡ 0 → last_complete (state_of h (counts_up_to inherited synthesized nonterminals) os ws (e ∷ es) u.rules u.conditions) ≡ true)
-      × (u.number ≡ 0 → Laid rows offsets (e ∷ es))
-  pub next : u.number ≡ 0 → Next t (at + 5) u
-  pub few : u.number ≡ 0 → p < productions_limit
-  pub inside : u.at ≤ length t
+      ≡ rest t (state_of h (counts_up_to inherited synthesized nonterminals) os ws (e ∷ es) v.rules v.conditions) v.at)
+      × (last_complete (state_of h (counts_up_to inherited synthesized nonterminals) os ws (e ∷ es) v.rules v.conditions) ≡ true)
+      × Laid rows offsets (e ∷ es))
+      (λ x. rest t (state_of h (counts_up_to inherited synthesized nonterminals) os ws es r₀ c₀) at ≡ malformed (fault_number x.fault) x.offset)
+  pub next : IfOk u (λ v. Next t (at + 5) v)
+  pub few : OnOk u (p < productions_limit)
+  pub inside : MatchResult u (λ v. v.at ≤ length t) (λ x. x.offset ≤ length t)
   pub kept : (length rows ≡ rows_length) × (length offsets ≡ productions_limit)
 
 -- the table after its header and counts

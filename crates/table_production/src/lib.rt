@@ -1,12 +1,13 @@
 // The field of a production, with its rules and conditions.
 #![tactic(auto)]
 
-ghost use Rattle.std.specs.Prelude.{◌≡◌, ℕ, ◌+◌, ◌<◌, ◌≤◌, length, replicate};
+ghost use Rattle.std.specs.Prelude.{◌≡◌, ℕ, ◌+◌, ◌<◌, ◌≤◌, length, replicate, IfOk, OnOk};
+ghost use Rattle.refusals.specs.Numbers.{fault_or_zero};
 ghost use Rattle.outline.specs.Images.{rows_length};
 ghost use Rattle.meaning.specs.Limits.{table_limit, nonterminals_limit, positions_limit, productions_limit};
 ghost use Rattle.meaning.specs.Table.{byte};
 ghost use Rattle.table_counts.specs.Counted.{SmallCounts};
-ghost use Rattle.table_items.specs.Progress.{Next};
+ghost use Rattle.table_items.specs.Progress.{Next, place_of};
 ghost use Rattle.table_sound_items.specs.Sound.{BodyTaken};
 ghost use Rattle.table_production.specs.Productions.{width_in, HeadJudged, FieldRead, SmallBody, WordsPlaced, BodyRead, ProductionRead};
 ghost use Rattle.table_production.specs.Rights.{RightsTo};
@@ -14,23 +15,24 @@ ghost use Rattle.table_production.specs.Rights.{RightsTo};
 use limits::{NONTERMINALS, POSITIONS, PRODUCTIONS, ROWS};
 use nonterminal_set::NonterminalSet;
 use outline::Sizes;
-use table_items::{Items, read_items, refused_after};
+use refusals::{TableFault, TableRefusal};
+use table_items::{Items, Refused, read_items};
 use table_occurrence_words::read_right;
 use table_rows::place_counts;
 use table_sound_items::{all_settled, walk};
 use token_set::TokenSet;
 
-// The number of the refusal of the field of production p, but for its symbols on the right, or 0.
-fn head_number(table: &[u8], at: usize, p: usize, nonterminals: usize) -> u8
+// The lowest fault of the field of production p, but for its symbols on the right.
+fn judge_head(table: &[u8], at: usize, p: usize, nonterminals: usize) -> Result<(), TableFault>
     requires { (at < length table.now) × (0 < p → byte table.now at ≡ 3) × (byte table.now at ≡ 6 → ⊥) }
-    ensures { HeadJudged table.now at p nonterminals result }
+    ensures { HeadJudged table.now at p nonterminals (fault_or_zero result) }
 {
     let size = table_fields::size_at(table, at);
     if table_fields::LARGEST < size {
-        return 2;
+        return Err(TableFault::CutShort);
     }
     if table_fields::wide(table[at]) != 3 {
-        return 3;
+        return Err(TableFault::OutOfOrder);
     }
     let from = at + 3;
     let end = from + size;
@@ -47,13 +49,13 @@ fn judge_body(
     synthesized: &[u8; NONTERMINALS],
     settled: &[u16; POSITIONS],
     sound: Items,
-) -> Items
+) -> Result<Items, Refused>
     requires { (at + 5 + width_in table.now at ≤ sound.at) × SmallBody table.now at carrying.0 inherited.now synthesized.now
         × (length inherited.now ≡ nonterminals_limit) × (length synthesized.now ≡ nonterminals_limit) × (sound.at ≤ length table.now) × (sound.rules ≤ sound.at) × (sound.conditions ≤ sound.at) }
     ensures read { (p q : ℕ) → BodyTaken table.now at carrying.0 inherited.now synthesized.now p q settled.now sound.at sound.rules sound.conditions
         → BodyRead table.now at carrying.0 inherited.now synthesized.now p q result }
-    ensures next { result.number ≡ 0 → Next table.now (at + 5) result }
-    ensures inside { result.at ≤ length table.now }
+    ensures next { IfOk result (λ u. Next table.now (at + 5) u) }
+    ensures inside { place_of result ≤ length table.now }
 {
     let width = table_fields::wide(table[at + 4]);
     let from = at + 3;
@@ -76,42 +78,37 @@ fn read_body(
     synthesized: &[u8; NONTERMINALS],
     inputs: &[u16; POSITIONS],
     settled: &mut [u16; POSITIONS],
-) -> Items
+) -> Result<Items, Refused>
     requires { (before.at + 5 + width_in table.now before.at ≤ length table.now) × SmallBody table.now before.at carrying.0 inherited.now synthesized.now
         × (length inherited.now ≡ nonterminals_limit) × (length synthesized.now ≡ nonterminals_limit) × (before.rules ≤ before.at) × (before.conditions ≤ before.at)
         × WordsPlaced table.now before.at carrying.0 inherited.now synthesized.now inputs.now settled.old }
     ensures read { BodyRead table.now before.at carrying.0 inherited.now synthesized.now before.rules before.conditions result }
-    ensures next { result.number ≡ 0 → Next table.now (before.at + 5) result }
-    ensures inside { result.at ≤ length table.now }
+    ensures next { IfOk result (λ u. Next table.now (before.at + 5) u) }
+    ensures inside { place_of result ≤ length table.now }
 {
-    let at = before.at;
-    let width = table_fields::wide(table[at + 4]);
-    let from = at + 5 + width;
-    let s = walk(
-        table,
-        from,
-        inputs,
-        settled,
-        before.rules,
-        before.conditions,
-    );
-    let sound = Items {
-        number: 0,
-        at: s.at,
-        rules: s.rules,
-        conditions: s.conditions,
+    let width = table_fields::wide(table[before.at + 4]);
+    let from = Items {
+        at: before.at + 5 + width,
+        ..before
     };
-    if s.sound && all_settled(settled, width) {
-        return sound;
-    }
-    judge_body(table, at, carrying, inherited, synthesized, settled, sound)
-}
-
-// What is read of the field of a production: the number of its refusal, or 0, and the word of its right side.
-#[derive(Clone, Copy)]
-struct Field {
-    number: u8,
-    word: NonterminalSet,
+    let stopped = match walk(table, from, inputs, settled) {
+        Ok(end) => {
+            if all_settled(settled, width) {
+                return Ok(end);
+            }
+            end
+        }
+        Err(stopped) => stopped,
+    };
+    judge_body(
+        table,
+        before.at,
+        carrying,
+        inherited,
+        synthesized,
+        settled,
+        stopped,
+    )
 }
 
 // The field of production p, with its row, the word of its right side and the words at its positions.
@@ -125,23 +122,17 @@ fn read_field(
     rows: &mut [u8; ROWS],
     inputs: &mut [u16; POSITIONS],
     settled: &mut [u16; POSITIONS],
-) -> Field
+) -> Result<NonterminalSet, TableFault>
     requires { (at < length table.now) × (0 < p → byte table.now at ≡ 3) × (byte table.now at ≡ 6 → ⊥) × SmallCounts inherited.now synthesized.now sizes.nonterminals
         × (sizes.nonterminals ≤ nonterminals_limit) × (length rows.old ≡ rows_length) × (inputs.old ≡ replicate positions_limit 0) × (settled.old ≡ replicate positions_limit 65535) }
     ensures { FieldRead table.now at p sizes.terminals sizes.nonterminals sizes.carrying.0 inherited.now synthesized.now
-        rows.old rows.new inputs.new settled.new result.number result.word.0 }
+        rows.old rows.new inputs.new settled.new result }
 {
-    let number = head_number(table, at, p, sizes.nonterminals);
-    if number != 0 {
-        return Field {
-            number,
-            word: NonterminalSet::EMPTY,
-        };
-    }
+    judge_head(table, at, p, sizes.nonterminals)?;
     let from = at + 3;
     let end = at + 5 + table_fields::wide(table[at + 4]);
     let body = &table[from..end];
-    let right = read_right(
+    read_right(
         rows,
         p,
         body,
@@ -150,12 +141,8 @@ fn read_field(
         synthesized,
         inputs,
         settled,
-    );
-    let word = right.word;
-    if !right.known {
-        return Field { number: 5, word };
-    }
-    Field { number: 0, word }
+    )
+    .ok_or(TableFault::Unknown)
 }
 
 // Production p, with its row, its offset, the word of its right side, its rules and conditions, from where those of the productions before it
@@ -170,7 +157,7 @@ pub fn read_production(
     rows: &mut [u8; ROWS],
     offsets: &mut [u32; PRODUCTIONS],
     words: &mut [u64; PRODUCTIONS],
-) -> Items
+) -> Result<Items, TableRefusal>
     requires { (before.at < length table.now) × (length table.now ≤ table_limit) × (0 < p → byte table.now before.at ≡ 3) × (byte table.now before.at ≡ 6 → ⊥)
         × SmallCounts inh.now syn.now sizes.nonterminals × (length inh.now ≡ nonterminals_limit) × (length syn.now ≡ nonterminals_limit)
         × (length rows.old ≡ rows_length) × (length offsets.old ≡ productions_limit) × (before.rules ≤ before.at) × (before.conditions ≤ before.at) × (length words.old ≡ productions_limit)
@@ -178,16 +165,45 @@ pub fn read_production(
     ensures read { ProductionRead table.now before.at p sizes.terminals sizes.nonterminals sizes.carrying.0 inh.now syn.now
         rows.old offsets.old before.rules before.conditions rows.new offsets.new result }
     ensures kept { length words.new ≡ productions_limit }
-    ensures words { result.number ≡ 0 → RightsTo rows.old p words.old → RightsTo rows.new (p + 1) words.new }
+    ensures words { OnOk result (RightsTo rows.old p words.old → RightsTo rows.new (p + 1) words.new) }
 {
     let at = before.at;
     let mut inputs = [0u16; POSITIONS];
-    let mut full = [65535u16; POSITIONS];
-    let field = read_field(table, at, p, sizes, inh, syn, rows, &mut inputs, &mut full);
-    if field.number != 0 {
-        return refused_after(before, field.number);
+    let mut settled = [65535u16; POSITIONS];
+    match read_field(
+        table,
+        at,
+        p,
+        sizes,
+        inh,
+        syn,
+        rows,
+        &mut inputs,
+        &mut settled,
+    ) {
+        Ok(word) => words[p] = word.0,
+        Err(fault) => {
+            let offset = at as u32;
+            return Err(TableRefusal { fault, offset });
+        }
     }
-    words[p] = field.word.0;
     offsets[p] = at as u32;
-    read_body(table, before, sizes.carrying, inh, syn, &inputs, &mut full)
+    match read_body(
+        table,
+        before,
+        sizes.carrying,
+        inh,
+        syn,
+        &inputs,
+        &mut settled,
+    ) {
+        Ok(items) => Ok(items),
+        Err(refused) => {
+            let offset = refused.at as u32;
+            Err(TableRefusal {
+                fault: refused.fault,
+                offset,
+            })
+        }
+    }
 }

@@ -16,7 +16,7 @@ use Rattle.outline.specs.Outline.{grammar_in, state_in, state_read_lem, grammar_
 use Rattle.table_fields.specs.Reads.{state_of}
 use Rattle.table_counts.specs.Counted.{header_in, counts_up_to, offsets_up_to}
 use Rattle.table_counts.proofs.Counting.{length_counts}
-use Rattle.table.specs.declared.Reading.TheVariants.{WellFormed}
+use Rattle.std.specs.Prelude.{Ok}
 use Rattle.table.specs.Laid.{RowOf}
 use Rattle.table.specs.Answer.{AnswersFrom}
 use Rattle.table_production.specs.Productions.{HeaderRead}
@@ -107,7 +107,7 @@ module _ (t : List ℕ) (from : ℕ) (sizes : Sizes) (inherited synthesized rows
           synthesized_are : (n : ℕ) → n < nonterminal_count g → get_or synthesized n 0 ≡ syn g (nonterminal n)
           synthesized_are n l = ap (λ z. z.synthesized) (counts_are n l)
 
-  pub answer_whole : length t ≤ at → (p ≡ 0 → ⊥) → AnswersFrom t from sizes (WellFormed counted) inherited synthesized rows offsets
+  pub answer_whole : length t ≤ at → (p ≡ 0 → ⊥) → AnswersFrom t from sizes (Ok counted) inherited synthesized rows offsets
   answer_whole ended some ws held u h =
       let f = w.found ws held in
       outline ws held f u (h ∙ reached_end t from sizes.nonterminals sizes.carrying.0 inherited synthesized rows offsets p at r c w ready.nonterminals ended ws f some)

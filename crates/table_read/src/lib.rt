@@ -2,42 +2,18 @@
 #![tactic(auto)]
 
 ghost use Rattle.std.specs.Prelude.{◌≡◌, ◌+◌, ◌*◌, ◌≤◌, length};
-ghost use Rattle.outline.specs.Images.{rows_length};
-ghost use Rattle.meaning.specs.Limits.{table_limit, nonterminals_limit, productions_limit};
 ghost use Rattle.meaning.specs.Table.{byte, read_table};
 ghost use Rattle.table_fields.specs.Field.{rest};
 ghost use Rattle.table_counts.specs.Counted.{counted};
-ghost use Rattle.table.specs.declared.Reading.TheVariants.{Malformed};
 ghost use Rattle.table.specs.Answer.{Answers, AnswersFrom, Worded};
 ghost use Rattle.table_production.specs.Productions.{HeaderRead, Begun};
 
 use limits::{NONTERMINALS, PRODUCTIONS, ROWS, TABLE};
 use outline::Sizes;
-use table::Reading;
+use refusals::{TableFault, TableRefusal};
 use table_items::Items;
 use table_production::read_production;
 use token_set::TokenSet;
-
-// A refusal, with its number and its offset.
-fn refused(number: u8, at: usize) -> Reading
-    requires { at ≤ table_limit }
-    ensures { result ≡ Malformed number at }
-{
-    let offset = at as u32;
-    Reading::Malformed { number, offset }
-}
-
-// Where the productions begin: no rule and no condition is read.
-fn none_read(from: usize) -> Items
-    ensures { (result.at ≡ from) × (result.rules ≡ 0) × (result.conditions ≡ 0) }
-{
-    Items {
-        number: 0,
-        at: from,
-        rules: 0,
-        conditions: 0,
-    }
-}
 
 // All productions, from an offset on.
 fn read_productions(
@@ -49,12 +25,17 @@ fn read_productions(
     rows: &mut [u8; ROWS],
     offsets: &mut [u32; PRODUCTIONS],
     words: &mut [u64; PRODUCTIONS],
-) -> Reading
-    requires { Begun table.now from sizes inherited.now synthesized.now × (length rows.old ≡ rows_length) × (length offsets.old ≡ productions_limit) × (length words.old ≡ productions_limit) }
+) -> Result<Sizes, TableRefusal>
+    requires { Begun table.now from sizes inherited.now synthesized.now }
     ensures { AnswersFrom table.now from sizes result inherited.now synthesized.now rows.new offsets.new × Worded result rows.new words.new }
 {
-    let mut done = none_read(from);
-    let mut p: usize = 0;
+    let mut done = Items {
+        at: from,
+        rules: 0,
+        conditions: 0,
+    };
+    let mut p = 0;
+    // Kept: each step is as long as the fields of the production that it reads, so no range has these offsets.
     while done.at < table.len() {
         done = read_production(
             table,
@@ -66,18 +47,19 @@ fn read_productions(
             rows,
             offsets,
             words,
-        );
-        if done.number != 0 {
-            return refused(done.number, done.at);
-        }
+        )?;
         p += 1;
     }
     if p == 0 {
-        return refused(3, done.at);
+        return Err(TableRefusal {
+            fault: TableFault::OutOfOrder,
+            offset: done.at as u32,
+        });
     }
-    let mut counted = sizes;
-    counted.productions = p;
-    Reading::WellFormed(counted)
+    Ok(Sizes {
+        productions: p,
+        ..sizes
+    })
 }
 
 // The tag 6 fields and the productions, from the last tag 2 field on.
@@ -89,28 +71,28 @@ fn read_after_counts(
     rows: &mut [u8; ROWS],
     offsets: &mut [u32; PRODUCTIONS],
     words: &mut [u64; PRODUCTIONS],
-) -> Reading
-    requires { HeaderRead table.now sizes inherited.now synthesized.now × (length rows.old ≡ rows_length) × (length offsets.old ≡ productions_limit) × (length words.old ≡ productions_limit) }
+) -> Result<Sizes, TableRefusal>
+    requires { HeaderRead table.now sizes inherited.now synthesized.now }
     ensures read { Answers result inherited.now synthesized.now rows.new offsets.new (rest table.now (counted table.now inherited.now synthesized.now sizes.nonterminals) (7 + 5 * sizes.nonterminals)) }
     ensures words { Worded result rows.new words.new }
 {
     let from = 7 + 5 * sizes.nonterminals;
-    let c = table_carriers::read_carriers(table, from, sizes.terminals);
-    if c.number != 0 {
-        return refused(c.number, c.at);
-    }
-    let carrying = c.carrying;
+    let carried = match table_carriers::read_carriers(table, from, sizes.terminals) {
+        Ok(carried) => carried,
+        Err(refused) => {
+            return Err(TableRefusal {
+                fault: refused.fault,
+                offset: refused.at as u32,
+            });
+        }
+    };
     let known = Sizes {
-        terminals: sizes.terminals,
-        nonterminals: sizes.nonterminals,
-        start: sizes.start,
-        result: sizes.result,
-        productions: 0,
-        carrying,
+        carrying: carried.carrying,
+        ..sizes
     };
     read_productions(
         table,
-        c.at,
+        carried.at,
         known,
         inherited,
         synthesized,
@@ -125,15 +107,11 @@ fn header_sizes(table: &[u8]) -> Sizes
     requires { 7 ≤ length table.now }
     ensures { (result.terminals ≡ byte table.now 3) × (result.nonterminals ≡ byte table.now 4) × (result.start ≡ byte table.now 5) × (result.result ≡ byte table.now 6) }
 {
-    let terminals = table_fields::wide(table[3]);
-    let nonterminals = table_fields::wide(table[4]);
-    let start = table_fields::wide(table[5]);
-    let result = table_fields::wide(table[6]);
     Sizes {
-        terminals,
-        nonterminals,
-        start,
-        result,
+        terminals: usize::from(table[3]),
+        nonterminals: usize::from(table[4]),
+        start: usize::from(table[5]),
+        result: usize::from(table[6]),
         productions: 0,
         carrying: TokenSet::EMPTY,
     }
@@ -149,29 +127,25 @@ pub fn read_table(
     rows: &mut [u8; ROWS],
     offsets: &mut [u32; PRODUCTIONS],
     words: &mut [u64; PRODUCTIONS],
-) -> Reading
-    requires { (length inherited.old ≡ nonterminals_limit) × (length synthesized.old ≡ nonterminals_limit) × (length rows.old ≡ rows_length) × (length offsets.old ≡ productions_limit) × (length words.old ≡ productions_limit) }
+) -> Result<Sizes, TableRefusal>
     ensures read { Answers result inherited.new synthesized.new rows.new offsets.new (read_table table.now) }
     ensures words { Worded result rows.new words.new }
 {
     if TABLE < table.len() {
-        return refused(1, 0);
+        return Err(TableRefusal {
+            fault: TableFault::TooLong,
+            offset: 0,
+        });
     }
-    let number = table_counts::header_number(table);
-    if number != 0 {
-        return refused(number, 0);
-    }
+    table_counts::judge_header(table).map_err(|fault| TableRefusal { fault, offset: 0 })?;
     let sizes = header_sizes(table);
-    let counted = table_counts::read_counts(
+    table_counts::read_counts(
         table,
         sizes.nonterminals,
         sizes.start,
         sizes.result,
         inherited,
         synthesized,
-    );
-    if counted.number != 0 {
-        return refused(counted.number, counted.offset);
-    }
+    )?;
     read_after_counts(table, sizes, inherited, synthesized, rows, offsets, words)
 }

@@ -25,11 +25,9 @@ pub fn place_counts(
     let left = 128 + table_fields::wide(body[0]);
     inh[0] = outline::count_of(inherited, left);
     syn[0] = outline::synthesized_of(carrying, synthesized, left);
-    let mut k: usize = 1;
-    while k + 1 < body.len() {
+    for k in 1..body.len() - 1 {
         let symbol = table_fields::wide(body[k + 1]);
         inh[k] = outline::count_of(inherited, symbol);
         syn[k] = outline::synthesized_of(carrying, synthesized, symbol);
-        k += 1;
     }
 }

@@ -20,8 +20,7 @@ pub fn note_down(note: &mut [u8; POSITIONS], position: usize, attribute: usize)
     requires { (position < positions_limit) × (1 ≤ attribute) × (attribute ≤ attributes_limit) }
     ensures { note.new ≡ set note.old position (bit_or (get_or note.old position 0) (2 ^ (attribute - 1))) }
 {
-    let byte = note[position];
-    note[position] = byte | (1u8 << (attribute - 1));
+    note[position] |= 1u8 << (attribute - 1);
 }
 
 // Whether the lowest d bits are set.
@@ -33,17 +32,16 @@ pub fn all_ones(n: usize, d: usize) -> bool
 }
 
 // Whether the outputs at a position are noted.
+#[tactic(auto, unfolding(table_rules::specs::Rule::filled_at, table_fields::specs::Demand::if_equal))]
 pub fn is_filled(position: usize, inherited: usize, synthesized: usize, byte: usize) -> bool
     requires { (inherited + synthesized ≤ attributes_limit) × (byte < 256) }
     ensures { result ≡ filled_at position inherited synthesized byte }
 {
     if position == 0 {
-        return all_ones(byte >> inherited, synthesized);
+        all_ones(byte >> inherited, synthesized)
+    } else {
+        all_ones(byte, inherited)
     }
-    if inherited == 0 {
-        return true;
-    }
-    all_ones(byte, inherited)
 }
 
 pub fn is_complete(
@@ -55,15 +53,13 @@ pub fn is_complete(
     requires { Small width inh.now syn.now }
     ensures { result ≡ complete_note width inh.now syn.now note.now }
 {
-    let mut k: usize = 0;
-    while k <= width {
+    for k in 0..width + 1 {
         let inherited = table_fields::wide(inh[k]);
         let synthesized = table_fields::wide(syn[k]);
         let byte = table_fields::wide(note[k]);
         if !is_filled(k, inherited, synthesized, byte) {
             return false;
         }
-        k += 1;
     }
     true
 }

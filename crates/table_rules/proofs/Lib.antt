@@ -4,3 +4,5 @@ pub mod Laws
 pub mod Order
 -- The classes of occurrences, and the demands on a rule and a condition by them
 pub mod ClassDemands
+-- A fault has a number above 0, which stands for none
+pub mod Faults

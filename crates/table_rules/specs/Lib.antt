@@ -2,3 +2,5 @@
 pub mod Rule
 -- What the lists of counts and the note of a production stand for, and what is asked of the note
 pub mod Note
+-- What an occurrence is, by number
+pub mod Classes

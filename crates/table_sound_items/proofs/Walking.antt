@@ -6,6 +6,7 @@ use mathlib.Core.List.{List, []}
 use native.Mathlib.Omega.{arith}
 use native.Mathlib.Decide.{ℕ_discrete}
 use lib.ListN.{get_or, length, replicate, take, drop}
+use Rattle.std.specs.Prelude.{Ok}
 use Rattle.meaning.specs.Limits.{positions_limit}
 use Rattle.meaning.specs.Table.{byte}
 use Rattle.table_fields.specs.Field.{body_at}
@@ -78,19 +79,6 @@ module _ (t : List ℕ) (from r₀ c₀ : ℕ) (inputs words₀ : List ℕ) wher
               subst (λ (x : ℕ). Walked (setting_of t o width inh syn) from r₀ c₀ s.note x r (c + 1)) (sym f.ends) (n.walked from r₀ c₀ (s.walked o width inh syn small i w));
           settled = s.settled;
         }
-
-  -- the same by other names for the words and for where it stops
-  pub sounding_at :
-      (words : List ℕ) (at r c : ℕ) (words' : List ℕ) (at' r' c' : ℕ) → words' ≡ words → at' ≡ at → r' ≡ r → c' ≡ c → Sounding t from r₀ c₀ inputs words₀ words at r c
-      → Sounding t from r₀ c₀ inputs words₀ words' at' r' c'
-  sounding_at words at r c words' at' r' c' d e f g s =
-      subst (λ (x : ℕ). Sounding t from r₀ c₀ inputs words₀ words' at' r' x) (sym g)
-      (subst (λ (x : ℕ). Sounding t from r₀ c₀ inputs words₀ words' at' x c) (sym f)
-      (subst (λ (x : ℕ). Sounding t from r₀ c₀ inputs words₀ words' x r c) (sym e)
-      (subst (λ (x : List ℕ). Sounding t from r₀ c₀ inputs words₀ x at r c) (sym d) s)))
-
-pub over_at : (t : List ℕ) (at at' : ℕ) → at' ≡ at → Over t at → Over t at'
-over_at t at at' e o = subst (Over t) (sym e) o
 
 -- ---- all outputs are noted
 
@@ -200,7 +188,7 @@ body_sound t at carrying inherited synthesized r₀ c₀ words end r c w l s o i
     record {
       read = λ inh syn wi ws small.
           let g = gaps_answered width inh syn note small false (sym (ap not (complete width inh syn note words small (s.settled inh syn wi ws small) All-set))) in
-          (walk_over t end at width inh syn r c note note end r c (walk_start t end at width inh syn r c note s.inside s.rules s.conditions) o false g (done end r c) refl l).read (at + 5 + width) r₀ c₀ (s.walked inh syn wi ws small);
+          (walk_over t end at width inh syn r c note note end r c (walk_start t end at width inh syn r c note s.inside s.rules s.conditions) o false g (Ok (done end r c)) refl l).read (at + 5 + width) r₀ c₀ (s.walked inh syn wi ws small);
       next = record { after = s.after; inside = s.inside; over = o; rules = s.rules; conditions = s.conditions };
     }
 

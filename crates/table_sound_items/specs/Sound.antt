@@ -1,5 +1,5 @@
 -- Rules and conditions that nothing is wrong with, and a walk past them.
-use Rattle.std.specs.Prelude.{ℕ, ◌+◌, ◌≤◌, ◌<◌, ◌≡◌, List, get_or, length, replicate}
+use Rattle.std.specs.Prelude.{ℕ, ◌+◌, ◌≤◌, ◌<◌, ◌≡◌, List, get_or, length, replicate, Result, Ok, Err}
 use Rattle.meaning.specs.Limits.{rules_limit, conditions_limit, positions_limit}
 use Rattle.meaning.specs.Table.{byte}
 use Rattle.table_fields.specs.Field.{Whole, body_at}
@@ -59,14 +59,19 @@ abbrev pub Over : List ℕ → ℕ → Type 0
 Over t at = at < length t → byte t at ≡ 3
 
 abbrev pub done : ℕ → ℕ → ℕ → Items
-done at r c = record { number = 0; at = at; rules = r; conditions = c }
+done at r c = record { at = at; rules = r; conditions = c }
+
+-- where a walk stops: behind all that is sound, or at a field that is to be judged
+abbrev pub stop_of : Result Items Items → Items
+stop_of (Ok u) = u
+stop_of (Err u) = u
 
 -- a production's rules and conditions read, by lists of the counts at its positions
 pub record BodySound (t : List ℕ) (at carrying : ℕ) (inherited synthesized : List ℕ) (r₀ c₀ : ℕ) (end r c : ℕ) : Type 0 where
   pub read :
       (inh syn : List ℕ) → Written (count_at_value inherited) (body_at t at (2 + byte t (at + 4))) inh → Written (synthesized_at carrying synthesized) (body_at t at (2 + byte t (at + 4))) syn
       → Small (byte t (at + 4)) inh syn
-      → ItemsRead (setting_of t at (byte t (at + 4)) inh syn) (at + 5 + byte t (at + 4)) r₀ c₀ (done end r c)
+      → ItemsRead (setting_of t at (byte t (at + 4)) inh syn) (at + 5 + byte t (at + 4)) r₀ c₀ (Ok (done end r c))
   pub next : Next t (at + 5 + byte t (at + 4)) (done end r c)
 
 -- its fields taken up to one of them: a note of their rules, by which the words are settled

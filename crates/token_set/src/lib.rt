@@ -9,7 +9,7 @@ ghost use Rattle.meaning.specs.Sets.{◌∪◌, empty_set, has, singleton, end_n
 ghost use Rattle.meaning.specs.Decide.{meet};
 ghost use Rattle.token_set.specs.SetBits.{set_of};
 
-#[derive(Clone, Copy)]
+#[derive(Clone, Copy, Debug, PartialEq, Eq)]
 pub struct TokenSet(pub u64);
 
 impl TokenSet {

@@ -7,17 +7,11 @@ ghost use Rattle.token_set.specs.SetBits.{set_of};
 pub fn one(n: u8) -> u64
     ensures { set_of result ≡ singleton n }
 {
-    if 64 <= n {
-        return 0;
-    }
-    1u64 << n
+    if n < 64 { 1u64 << n } else { 0 }
 }
 
 pub fn has(word: u64, n: u8) -> bool
     ensures { result ≡ has (set_of word) n }
 {
-    if 64 <= n {
-        return false;
-    }
-    (word >> n) & 1 == 1
+    n < 64 && (word >> n) & 1 == 1
 }

@@ -10,8 +10,7 @@ ghost use Rattle.window.specs.Answers.{answer_is, outcome_is};
 
 use limits::{PAST_WINDOW, WINDOW};
 use value::in_range;
-use window_cells::clear;
-use window_found::{Checked, Found};
+use window_found::Found;
 use window_kept::check;
 use window_push::renew;
 
@@ -28,10 +27,10 @@ pub enum WindowAnswer {
 fn standing(held: usize, total: i64, largest: i64) -> WindowAnswer
     ensures { answer_is result ≡ answer_of held total largest }
 {
-    if held == 0 {
-        return WindowAnswer::Empty;
+    match held {
+        0 => WindowAnswer::Empty,
+        _ => WindowAnswer::Totals { total, largest },
     }
-    WindowAnswer::Totals { total, largest }
 }
 
 // The value enters: total and largest with it are what the check has found.
@@ -50,17 +49,14 @@ fn push(value: i64, buffer: &mut [i64], found: Found, leaders: &[u8]) -> WindowA
 pub fn window_open(size: u64, buffer: &mut [i64]) -> WindowAnswer
     ensures { outcome_is result buffer.new ≡ opens_window size buffer.old }
 {
-    if size < 1 {
-        return WindowAnswer::Refused;
-    }
-    if (WINDOW as u64) < size {
+    if size < 1 || (WINDOW as u64) < size {
         return WindowAnswer::Refused;
     }
     let length = 5 + 2 * size as usize;
     if buffer.len() < length {
         return WindowAnswer::Refused;
     }
-    clear(&mut buffer[..length]);
+    buffer[..length].fill(0);
     buffer[0] = size as i64;
     WindowAnswer::Empty
 }
@@ -73,7 +69,7 @@ pub fn window_value(value: i64, buffer: &mut [i64]) -> WindowAnswer
         return WindowAnswer::Refused;
     }
     let mut leaders = [0u8; PAST_WINDOW];
-    let Checked::Kept(found) = check(buffer, value, &mut leaders) else {
+    let Some(found) = check(buffer, value, &mut leaders) else {
         return WindowAnswer::Refused;
     };
     push(value, buffer, found, &leaders)
@@ -84,7 +80,7 @@ pub fn window_state(buffer: &[i64]) -> WindowAnswer
     ensures { answer_is result ≡ brings_refusal buffer.now }
 {
     let mut leaders = [0u8; PAST_WINDOW];
-    let Checked::Kept(found) = check(buffer, 0, &mut leaders) else {
+    let Some(found) = check(buffer, 0, &mut leaders) else {
         return WindowAnswer::Refused;
     };
     standing(found.held, found.total, found.largest)

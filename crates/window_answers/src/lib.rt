@@ -13,15 +13,9 @@ pub fn window_brings(answer: Answer, buffer: &mut [i64]) -> WindowAnswer
     ensures { outcome_is result buffer.new ≡ brings_answer (answer_is answer) buffer.old }
 {
     match answer {
-        Answer::More(_) => window_state(buffer),
         Answer::Value(value, _) => window_value(value, buffer),
-        Answer::Refused {
-            number: _,
-            tokens: _,
-        } => window_state(buffer),
-        Answer::TableRefused {
-            number: _,
-            offset: _,
-        } => window_state(buffer),
+        Answer::More(_) | Answer::Refused { .. } | Answer::TableRefused { .. } => {
+            window_state(buffer)
+        }
     }
 }

@@ -1,17 +1,19 @@
 -- Stores from the front, a cell a turn, and small numbers.
-use Prim.Native.Nat.{ℕ, zero, suc, ◌+◌, ◌<◌, ◌≤◌}
+use Prim.Native.Nat.{ℕ, suc, ◌+◌, ◌<◌, ◌≤◌}
 use native.Mathlib.Numerals.{add-one}
 use native.Mathlib.Omega.{arith}
 use mathlib.Core.Path.{◌≡◌, refl, sym, ap, ◌∙◌}
-use mathlib.Core.Bool.{true, false, ◌&&◌}
+use mathlib.Core.Bool.{Bool, true, false, ◌&&◌}
 use mathlib.Core.List.{List, [], ◌∷◌, ◌++◌, map, map-append}
 use borrow.Author.Tests.{leb-true, le-leb}
 use lib.IntN.{ℤ, pos, negsuc, nat_abs}
 use lib.Signed.{le_z, non_neg}
 use lib.Dec.{T, leb}
-use lib.ListN.{length, get_or, take, drop, set, length-replicate, length-map}
+use lib.ListN.{length, get_or, take, drop, set, length-map}
 use lib.Seq.{drop-cons, set_at, append_snoc, take-suc, length-take-le}
-use Rattle.meaning_window.specs.Window.{zeros, small, window_limit, past_window}
+use Rattle.std.specs.List.{list_all}
+use Rattle.meaning.specs.Base.{all}
+use Rattle.meaning_window.specs.Window.{small, window_limit, past_window}
 use Rattle.theory_window.specs.Lists.{and_right}
 use Rattle.theory_base.specs.Members.{right_false}
 
@@ -20,19 +22,18 @@ use Rattle.theory_base.specs.Members.{right_false}
 store : (front d : List ℤ) (i : ℕ) (v : ℤ) → length front ≡ i → i < length d → set (front ++ drop i d) i v ≡ front ++ (v ∷ []) ++ drop (i + 1) d
 store front d i v e l = rw (add-one i, drop-cons d i (pos 0) l, set_at front (get_or d i (pos 0)) (drop (suc i) d) v i e) (sym (append_snoc front v (drop (suc i) d)))
 
-zeros_more : (n : ℕ) → zeros n ++ (pos 0 ∷ []) ≡ zeros (suc n)
-zeros_more zero = refl
-zeros_more (suc n) = ap (λ l. pos 0 ∷ l) (zeros_more n)
-
-pub clear_turn : (d cells : List ℤ) (i : ℕ) → i < length d → cells ≡ zeros i ++ drop i d → set cells i (pos 0) ≡ zeros (i + 1) ++ drop (i + 1) d
-clear_turn d cells i l q = let e : zeros i ++ (pos 0 ∷ []) ≡ zeros (i + 1) = rw (add-one i) (zeros_more i) in ap (λ c. set c i (pos 0)) q ∙ (store (zeros i) d i (pos 0) (length-replicate i (pos 0)) l ∙ ap (λ t. t ++ drop (i + 1) d) e)
-
 pub put_turn : (d cells : List ℤ) (f : List ℕ) (i : ℕ) (v : ℤ) → i < length d → i < length f → v ≡ pos (get_or f i 0) → cells ≡ map pos (take i f) ++ drop i d → set cells i v ≡ map pos (take (i + 1) f) ++ drop (i + 1) d
 put_turn d cells f i v l m e q =
     let g : take (i + 1) f ≡ take i f ++ (get_or f i 0 ∷ []) = rw (add-one i) (take-suc f i 0 m) in
     let t : map pos (take i f) ++ (pos (get_or f i 0) ∷ []) ≡ map pos (take (i + 1) f) = sym (ap (map pos) g ∙ map-append pos (take i f) (get_or f i 0 ∷ [])) in
     let n : length (map pos (take i f)) ≡ i = length-map (take i f) pos ∙ length-take-le i f (omega arith) in
     (λ j. set (q j) i (e j)) ∙ (store (map pos (take i f)) d i (pos (get_or f i 0)) n l ∙ ap (λ x. x ++ drop (i + 1) d) t)
+
+-- ---- tests
+
+pub list_all_all : {A : Type 0} (t : A → Bool) (xs : List A) → list_all t xs ≡ all t xs
+list_all_all t [] = refl
+list_all_all t (x ∷ xs) = ap (λ b. t x && b) (list_all_all t xs)
 
 -- ---- small numbers
 

@@ -4,6 +4,10 @@ use Rattle.std.proofs.Common.{arith, le-leb, ltb-true, ltb-false, length-drop, t
 use Rattle.std.proofs.lemmas.Bool.{lt-leb}
 use Rattle.std.specs.Int.Signed.{lt_z, le_z}
 use Rattle.std.specs.Int.{w64}
+use Rattle.std.specs.Ordering.{int_eq}
+use Rattle.std.proofs.lemmas.Bool.Decides.{same_from_decides, Decides-int_eq}
+use Rattle.meaning_window.specs.Window.{same_number}
+use Rattle.theory_window.specs.Kept.{same_number_same, same_number_refl}
 
 pub back : (z : ℤ) → SFits w64 z → to_z w64 (of_z w64 z) ≡ z
 back z f = to_z-of_z f
@@ -24,3 +28,7 @@ le_not_lt (pos a) (pos b) = leb_not a b
 le_not_lt (pos a) (negsuc b) = refl
 le_not_lt (negsuc a) (pos b) = refl
 le_not_lt (negsuc a) (negsuc b) = leb_not b a
+
+-- `==` on signed numbers
+pub int_eq_same : (a b : ℤ) → int_eq a b ≡ same_number a b
+int_eq_same a b = same_from_decides (int_eq a b) (same_number a b) (Decides-int_eq a b) (same_number_same a b, λ e. rw e (same_number_refl b))

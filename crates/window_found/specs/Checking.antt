@@ -1,5 +1,5 @@
 -- The tests of a buffer, in their order.
-use Rattle.std.specs.Prelude.{ℕ, ◌+◌, ◌-◌, ◌*◌, ◌<◌, ◌≤◌, ◌≡◌, refl, Bool, true, false, ◌&&◌, List, length, drop, leb, ℤ, ◌+ℤ◌, ◌-ℤ◌}
+use Rattle.std.specs.Prelude.{ℕ, ◌+◌, ◌-◌, ◌*◌, ◌<◌, ◌≤◌, ◌≡◌, refl, Bool, true, false, ◌&&◌, Option, None, List, length, drop, leb, ℤ, ◌+ℤ◌, ◌-ℤ◌}
 use Rattle.std.proofs.Common.{arith, ap, ◌∙◌, le-leb}
 use Rattle.std.proofs.Math.Path.{sym}
 use Rattle.std.proofs.lemmas.Bool.{lt-leb}
@@ -15,8 +15,7 @@ use Rattle.window_found.specs.Cut as Cut
 use Rattle.window_found.specs.Parts.{parts_kept}
 use Rattle.window_found.specs.Checks.{checked, ends_same, claimed, values_kept, found_of, found_parts, found_in, new_leaders, Walked, CheckedParts, CheckedIn}
 use Rattle.window_found.specs.declared.Numbers.{Numbers}
-use Rattle.window_found.specs.declared.Checked.{Checked}
-use Rattle.window_found.specs.declared.Checked.TheVariants.{Wrong}
+use Rattle.window_found.specs.declared.Found.{Found}
 
 -- nothing is known of a buffer that fails the test
 contradiction : {P : Type 0} {b : Bool} → b ≡ false → b ≡ true → P
@@ -27,12 +26,12 @@ module _ (b : List ℤ) (v : ℤ) (cells : List ℕ) (n : ℕ) (e : n ≡ size_i
   unfolding kept_parts
   by_parts = sym (kept_parts_lem b) ∙ sym (λ i. size_fits (e i) (length b) && parts_kept b (e i))
 
-  pub size_not : size_fits n (length b) ≡ false → CheckedIn b v Wrong cells
+  pub size_not : size_fits n (length b) ≡ false → CheckedIn b v None cells
   size_not t =
       let f : well_kept b ≡ false = by_parts ∙ ap (λ x. x && parts_kept b n) t in
       record { answer = sym (ap (λ x. checked x (found_in b v)) f); leaders = contradiction f }
 
-  pub size_met : {r : Checked} → size_fits n (length b) ≡ true → CheckedParts b n v r cells → CheckedIn b v r cells
+  pub size_met : {r : Option Found} → size_fits n (length b) ≡ true → CheckedParts b n v r cells → CheckedIn b v r cells
   size_met t q =
       let m : parts_kept b n ≡ well_kept b = sym (by_parts ∙ ap (λ x. x && parts_kept b n) t) in
       record {
@@ -61,25 +60,25 @@ module _ (b : List ℤ) (v : ℤ) (cells : List ℕ) (n : ℕ) (most : n ≤ win
   chained h k c t eh ek ec et = sym (λ i. place_fits n (eh i) (ek i) && (leb (ec i) n && (rest_zero (eh i) (Cut.slots_part_lem b n most long i) (ec i) (Cut.area_part_lem b n most long i)
       && values_fit (Cut.slots_part_long b n most long i) (eh i) (ek i) (Cut.slots_part_lem b n most long i) (claimed (Cut.area_part_lem b n most long i) (ec i)) (et i))))
 
-  wrong : parts_kept b n ≡ false → CheckedParts b n v Wrong cells
+  wrong : parts_kept b n ≡ false → CheckedParts b n v None cells
   wrong p = record { answer = sym (ap (λ x. checked x (found_parts b n v)) p); leaders = contradiction p }
 
   module _ (h k : ℕ) (eh : h ≡ held_in b) (ek : k ≡ next_in b) where
-    pub place_not : place_fits n h k ≡ false → CheckedParts b n v Wrong cells
+    pub place_not : place_fits n h k ≡ false → CheckedParts b n v None cells
     place_not p = wrong (chained h k (count_in b) (total_in b) eh ek refl refl ∙ ap (λ x. x && (leb (count_in b) n && fits (numbers h k (count_in b) (total_in b)))) p)
 
     module _ (p : place_fits n h k ≡ true) (c : ℕ) (ec : c ≡ count_in b) where
-      pub count_not : n < c → CheckedParts b n v Wrong cells
+      pub count_not : n < c → CheckedParts b n v None cells
       count_not l = wrong (chained h k c (total_in b) eh ek ec refl ∙ (λ i. p i && (lt-leb c n l i && fits (numbers h k c (total_in b)))))
 
       module _ (l : c ≤ n) where
         met : (t : ℤ) → t ≡ total_in b → parts_kept b n ≡ fits (numbers h k c t)
         met t et = chained h k c t eh ek ec et ∙ (λ i. p i && (le-leb c n l i && fits (numbers h k c t)))
 
-        pub rest_not : rest_zero h slots_part c area_part ≡ false → CheckedParts b n v Wrong cells
+        pub rest_not : rest_zero h slots_part c area_part ≡ false → CheckedParts b n v None cells
         rest_not z = wrong (met (total_in b) refl ∙ ap (λ x. x && values_kept slots_part area_part (numbers h k c (total_in b))) z)
 
-        pub values_by : rest_zero h slots_part c area_part ≡ true → (t : ℤ) → t ≡ total_in b → {r : Checked} → Walked slots_part area_part (numbers h k c t) v r cells → CheckedParts b n v r cells
+        pub values_by : rest_zero h slots_part c area_part ≡ true → (t : ℤ) → t ≡ total_in b → {r : Option Found} → Walked slots_part area_part (numbers h k c t) v r cells → CheckedParts b n v r cells
         values_by z t et q =
             let at : Numbers = numbers h k c t in
             let m : values_kept slots_part area_part at ≡ parts_kept b n = sym (met t et ∙ ap (λ x. x && values_kept slots_part area_part at) z) in

@@ -1,5 +1,5 @@
 -- What the check answers.
-use Rattle.std.specs.Prelude.{ℕ, ◌+◌, ◌-◌, ◌≡◌, refl, Bool, true, false, cond, List, map, length, take, drop, ℤ, ◌+ℤ◌, ◌-ℤ◌}
+use Rattle.std.specs.Prelude.{ℕ, ◌+◌, ◌-◌, ◌≡◌, refl, Bool, true, false, cond, Option, Some, None, List, map, length, take, drop, ℤ, ◌+ℤ◌, ◌-ℤ◌}
 use Rattle.std.proofs.Common.{arith, sym, ◌∙◌}
 use Rattle.meaning_window.specs.Window.{small, value_at, size_in_value, held_in, next_in, total_in, well_kept, past_window}
 use Rattle.theory_window.specs.Parts.{count_in, top_at, values_fit}
@@ -7,11 +7,9 @@ use Rattle.theory_window.specs.Next.{leaving_of, leaders_with, top_with}
 use Rattle.window_found.specs.Parts.{parts_kept}
 use Rattle.window_found.specs.declared.Found.{Found}
 use Rattle.window_found.specs.declared.Numbers.{Numbers}
-use Rattle.window_found.specs.declared.Checked.{Checked}
-use Rattle.window_found.specs.declared.Checked.TheVariants.{Kept, Wrong}
 
-abbrev pub checked : Bool → Found → Checked
-checked b f = cond b (Kept f) Wrong
+abbrev pub checked : Bool → Found → Option Found
+checked b f = cond b (Some f) None
 
 -- the lent cells end with these numbers
 pub record EndsWith (ls cells : List ℕ) : Type 0 where
@@ -42,7 +40,7 @@ found_of s area at v = record {
 abbrev pub values_kept : (s area : List ℤ) → Numbers → Bool
 values_kept s area at = values_fit (length s) at.held at.next s (claimed area at.count) at.total
 
-pub record Walked (s area : List ℤ) (at : Numbers) (v : ℤ) (r : Checked) (cells : List ℕ) : Type 0 where
+pub record Walked (s area : List ℤ) (at : Numbers) (v : ℤ) (r : Option Found) (cells : List ℕ) : Type 0 where
   pub answer : r ≡ checked (values_kept s area at) (found_of s area at v)
   pub leaders : values_kept s area at ≡ true → EndsWith (leaders_with s at.next v (claimed area at.count)) cells
 
@@ -70,7 +68,7 @@ found_parts b n v = record {
   from = past_window - length (new_leaders b n v);
 }
 
-pub record CheckedParts (b : List ℤ) (n : ℕ) (v : ℤ) (r : Checked) (cells : List ℕ) : Type 0 where
+pub record CheckedParts (b : List ℤ) (n : ℕ) (v : ℤ) (r : Option Found) (cells : List ℕ) : Type 0 where
   pub answer : r ≡ checked (parts_kept b n) (found_parts b n v)
   pub leaders : parts_kept b n ≡ true → EndsWith (new_leaders b n v) cells
 
@@ -79,7 +77,7 @@ pub record CheckedParts (b : List ℤ) (n : ℕ) (v : ℤ) (r : Checked) (cells 
 abbrev pub found_in : List ℤ → ℤ → Found
 found_in b v = found_parts b (size_in_value b) v
 
-pub record CheckedIn (b : List ℤ) (v : ℤ) (r : Checked) (cells : List ℕ) : Type 0 where
+pub record CheckedIn (b : List ℤ) (v : ℤ) (r : Option Found) (cells : List ℕ) : Type 0 where
   pub answer : r ≡ checked (well_kept b) (found_in b v)
   pub leaders : well_kept b ≡ true → EndsWith (new_leaders b (size_in_value b) v) cells
 
@@ -89,16 +87,16 @@ pub record KnownWhereKept (b : List ℤ) (v : ℤ) (f : Found) (cells : List ℕ
   pub found : f ≡ found_in b v
   pub leaders : EndsWith (new_leaders b (size_in_value b) v) cells
 
-pub checked_kept : (b : List ℤ) (v : ℤ) {r : Checked} {cells : List ℕ} {f : Found} → CheckedIn b v r cells → r ≡ Kept f → KnownWhereKept b v f cells
+pub checked_kept : (b : List ℤ) (v : ℤ) {r : Option Found} {cells : List ℕ} {f : Found} → CheckedIn b v r cells → r ≡ Some f → KnownWhereKept b v f cells
 checked_kept b v {cells = cells} {f = f} w d = by (well_kept b) refl (sym d ∙ w.answer)
   where
-    by : (x : Bool) → well_kept b ≡ x → Kept f ≡ checked x (found_in b v) → KnownWhereKept b v f cells
+    by : (x : Bool) → well_kept b ≡ x → Some f ≡ checked x (found_in b v) → KnownWhereKept b v f cells
     by true e q = record { kept = e; found = cc; leaders = w.leaders e }
     by false e q = absurd (let z : ◌≡◌ {A = ℕ} 0 1 = cc in omega arith)
 
-pub checked_wrong : (b : List ℤ) (v : ℤ) {r : Checked} {cells : List ℕ} → CheckedIn b v r cells → r ≡ Wrong → well_kept b ≡ false
+pub checked_wrong : (b : List ℤ) (v : ℤ) {r : Option Found} {cells : List ℕ} → CheckedIn b v r cells → r ≡ None → well_kept b ≡ false
 checked_wrong b v w d = by (well_kept b) (sym d ∙ w.answer)
   where
-    by : (x : Bool) → Wrong ≡ checked x (found_in b v) → x ≡ false
+    by : (x : Bool) → None ≡ checked x (found_in b v) → x ≡ false
     by true q = absurd (let z : ◌≡◌ {A = ℕ} 0 1 = cc in omega arith)
     by false q = refl

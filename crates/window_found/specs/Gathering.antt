@@ -1,5 +1,5 @@
 -- What the walk has gathered, from its start over each turn to its end.
-use Rattle.std.specs.Prelude.{ℕ, suc, ◌-◌, ◌*◌, ◌<◌, ◌≤◌, Bool, ◌&&◌, not, List, [], ◌∷◌, ◌++◌, length, get_or, take, drop, set, ℤ, pos, nat_abs, ◌+ℤ◌, ◌-ℤ◌}
+use Rattle.std.specs.Prelude.{ℕ, suc, ◌-◌, ◌*◌, ◌<◌, ◌≤◌, Bool, ◌&&◌, not, Option, Some, None, List, [], ◌∷◌, ◌++◌, length, get_or, take, drop, set, ℤ, pos, nat_abs, ◌+ℤ◌, ◌-ℤ◌}
 use Rattle.std.proofs.Common.{arith, ap, ◌∙◌, length-drop, length-set, drop_of_length-le, drop-cons, drop_at, length-take-le, get_or-set_same, get_or-set_other}
 use Rattle.std.proofs.Math.Path.{◌≡◌, refl, sym}
 use Rattle.std.proofs.Math.Bool.{true, false, cond}
@@ -21,9 +21,7 @@ use Rattle.window_found.specs.Turns.{ReadyForTurn, Ended, matched_at, stays_at, 
 use Rattle.window_found.specs.Checks.{checked, claimed, values_kept, found_of, Walked, EndsWith}
 use Rattle.window_found.specs.declared.Numbers.{Numbers}
 use Rattle.window_found.specs.declared.Walk.{Walk}
-use Rattle.window_found.specs.declared.Turn.TheVariants as Turn
-use Rattle.window_found.specs.declared.Checked.{Checked}
-use Rattle.window_found.specs.declared.Checked.TheVariants.{Kept, Wrong}
+use Rattle.window_found.specs.declared.Found.{Found}
 use Rattle.window_found.specs.Turning.{matched_some}
 use Rattle.window_found.specs.Walking.{left_fits, top_start, top_next, claimed_long, claimed_read, left_start, left_out, left_skip, left_none, left_other, left_next, left_over, left_end}
 
@@ -174,11 +172,11 @@ module _ (s area : List ℤ) (at : Numbers) (v : ℤ) (p : Parts.Window s area a
               best = sym (ap (λ l. value_at (set s k v) (get_or l 0 0)) n ∙ get_or-set_other s k i v (pos 0) z);
             }
 
-    pub walk_on_lem : {after : Walk} {laid : List ℕ} → Turn.On after ≡ turned s area at.next v w → laid ≡ cells_after s area at.next v w cells → Walking s area at v (left - 1) after laid
+    pub walk_on_lem : {after : Walk} {laid : List ℕ} → Some after ≡ turned s area at.next v w → laid ≡ cells_after s area at.next v w cells → Walking s area at v (left - 1) after laid
     unfolding turned cells_after
     walk_on_lem {after} {laid} q y = by (in_range x) (lt_z w.top x) (matched_at area u i) (stays_at i k x v) refl refl refl refl q y
       where
-        by : (a b e d : Bool) → in_range x ≡ a → lt_z w.top x ≡ b → matched_at area u i ≡ e → stays_at i k x v ≡ d → Turn.On after ≡ turn_by_value a b e d w i x → laid ≡ cells_by a b e d w i cells → Walking s area at v (left - 1) after laid
+        by : (a b e d : Bool) → in_range x ≡ a → lt_z w.top x ≡ b → matched_at area u i ≡ e → stays_at i k x v ≡ d → Some after ≡ turn_by_value a b e d w i x → laid ≡ cells_by a b e d w i cells → Walking s area at v (left - 1) after laid
         by false b e d fa fb fe fd t z = absurd (let o : ◌≡◌ {A = ℕ} 0 1 = cc in omega arith)
         by true false e d fa fb fe fd t z = let o : after ≡ passing w i x = cc in rw (o, z) (goes_pass fa fb)
         by true true false d fa fb fe fd t z = absurd (let o : ◌≡◌ {A = ℕ} 0 1 = cc in omega arith)
@@ -190,11 +188,11 @@ module _ (s area : List ℤ) (at : Numbers) (v : ℤ) (p : Parts.Window s area a
     not_matched true f a b e = left_none s area at p w.top w.sum w.slot u left m.fits some a b (eqb-true u 0 f)
     not_matched false f a b e = left_other s area at p w.top w.sum w.slot u left m.fits some a b (omega (arith, eqb-false u 0 f)) m.unmatched (eqb-false (number_at area (u - 1)) i e)
 
-    pub walk_wrong : Turn.Wrong ≡ turned s area at.next v w → values_kept s area at ≡ false
+    pub walk_wrong : None ≡ turned s area at.next v w → values_kept s area at ≡ false
     unfolding turned
     walk_wrong q = by (in_range x) (lt_z w.top x) (matched_at area u i) (stays_at i k x v) refl refl refl q
       where
-        by : (a b e d : Bool) → in_range x ≡ a → lt_z w.top x ≡ b → matched_at area u i ≡ e → Turn.Wrong ≡ turn_by_value a b e d w i x → values_kept s area at ≡ false
+        by : (a b e d : Bool) → in_range x ≡ a → lt_z w.top x ≡ b → matched_at area u i ≡ e → None ≡ turn_by_value a b e d w i x → values_kept s area at ≡ false
         by false b e d fa fb fe t = left_out s area at p w.top w.sum w.slot u left m.fits some fa
         by true false e d fa fb fe t = absurd (let o : ◌≡◌ {A = ℕ} 0 1 = cc in omega arith)
         by true true false d fa fb fe t = not_matched (eqb u 0) refl fa fb fe
@@ -203,7 +201,7 @@ module _ (s area : List ℤ) (at : Numbers) (v : ℤ) (p : Parts.Window s area a
 
   -- ---- the end
 
-  pub walked_wrong : (cells : List ℕ) → values_kept s area at ≡ false → Walked s area at v Wrong cells
+  pub walked_wrong : (cells : List ℕ) → values_kept s area at ≡ false → Walked s area at v None cells
   walked_wrong cells e = record { answer = sym (ap (λ b. checked b (found_of s area at v)) e); leaders = λ t. absurd (let z : true ≡ false = sym t ∙ e in let o : ◌≡◌ {A = ℕ} 0 1 = cc in omega arith) }
 
   module _ (w : Walk) (cells : List ℕ) (left : ℕ) (z : left ≡ 0) (m : Walking s area at v left w cells) where
@@ -229,13 +227,13 @@ module _ (s area : List ℤ) (at : Numbers) (v : ℤ) (p : Parts.Window s area a
           let b : w.best ≡ top_with s k v ls = m.best ∙ ap (λ u. top_with s k v (drop u ls)) q in
           (λ j. record { size = length s; held = at.held; next = at.next; total = at.total; largest = t j; sum = at.total -ℤ e j +ℤ v; top = b j; from = begin j })
 
-    pub walk_ends : {r : Checked} → r ≡ concluded (length s) at v w → Walked s area at v r cells
+    pub walk_ends : {r : Option Found} → r ≡ concluded (length s) at v w → Walked s area at v r cells
     unfolding concluded
     walk_ends {r} q = by (eqb w.unmatched 0) refl (same_number at.total w.sum) refl q
       where
-        by : (a : Bool) → eqb w.unmatched 0 ≡ a → (b : Bool) → same_number at.total w.sum ≡ b → r ≡ cond (a && b) (Kept (found_by (length s) at v w)) Wrong → Walked s area at v r cells
+        by : (a : Bool) → eqb w.unmatched 0 ≡ a → (b : Bool) → same_number at.total w.sum ≡ b → r ≡ cond (a && b) (Some (found_by (length s) at v w)) None → Walked s area at v r cells
         by false f b g y = rw y (walked_wrong cells (left_over s area at p w.top w.sum w.slot w.unmatched left m.fits z (omega (arith, eqb-false w.unmatched 0 f)) m.unmatched))
         by true f false g y = rw y (walked_wrong cells (left_end s area at p w.top w.sum w.slot w.unmatched left m.fits z (eqb-true w.unmatched 0 f) ∙ g))
         by true f true g y =
             let e : values_kept s area at ≡ true = left_end s area at p w.top w.sum w.slot w.unmatched left m.fits z (eqb-true w.unmatched 0 f) ∙ g in
-            record { answer = y ∙ (ap Kept (found (eqb-true w.unmatched 0 f)) ∙ sym (ap (λ b. checked b (found_of s area at v)) e)); leaders = λ t. ends_with (eqb-true w.unmatched 0 f) }
+            record { answer = y ∙ (ap Some (found (eqb-true w.unmatched 0 f)) ∙ sym (ap (λ b. checked b (found_of s area at v)) e)); leaders = λ t. ends_with (eqb-true w.unmatched 0 f) }

@@ -1,5 +1,5 @@
 -- One turn of the walk from the newest value, and its end.
-use Rattle.std.specs.Prelude.{ℕ, ◌-◌, ◌*◌, ◌≤◌, ◌<◌, Bool, true, false, ◌&&◌, not, cond, List, length, set, eqb, ℤ, nat_abs, ◌+ℤ◌, ◌-ℤ◌}
+use Rattle.std.specs.Prelude.{ℕ, ◌-◌, ◌*◌, ◌≤◌, ◌<◌, Bool, true, false, ◌&&◌, not, cond, Option, Some, None, List, length, set, eqb, ℤ, nat_abs, ◌+ℤ◌, ◌-ℤ◌}
 use Rattle.std.specs.Int.Signed.{lt_z}
 use Rattle.meaning.specs.Value.{in_range}
 use Rattle.meaning_window.specs.Window.{value_at, number_at, same_number, window_limit}
@@ -9,10 +9,6 @@ use Rattle.theory_window.specs.Next.{leaving_of}
 use Rattle.window_found.specs.declared.Found.{Found}
 use Rattle.window_found.specs.declared.Numbers.{Numbers}
 use Rattle.window_found.specs.declared.Walk.{Walk}
-use Rattle.window_found.specs.declared.Turn.{Turn}
-use Rattle.window_found.specs.declared.Turn.TheVariants as Turn
-use Rattle.window_found.specs.declared.Checked.{Checked}
-use Rattle.window_found.specs.declared.Checked.TheVariants as Checked
 
 -- what a turn needs: a slot, room for a leader where one is not matched yet, and a sum that has room
 pub record ReadyForTurn (s : List ℤ) (w : Walk) : Type 0 where
@@ -49,12 +45,12 @@ abbrev pub staying : Walk → ℕ → ℤ → Walk
 staying w i x = record { slot = i; last = x; sum = w.sum +ℤ x; top = x; unmatched = w.unmatched - 1; from = w.from - 1; best = x }
 
 -- by four tests: the value is in range, leads, is matched, stays
-abbrev pub turn_by_value : (inside leads matches stays : Bool) → Walk → ℕ → ℤ → Turn
-turn_by_value false leads matches stays w i x = Turn.Wrong
-turn_by_value true false matches stays w i x = Turn.On (passing w i x)
-turn_by_value true true false stays w i x = Turn.Wrong
-turn_by_value true true true false w i x = Turn.On (ending w i x)
-turn_by_value true true true true w i x = Turn.On (staying w i x)
+abbrev pub turn_by_value : (inside leads matches stays : Bool) → Walk → ℕ → ℤ → Option Walk
+turn_by_value false leads matches stays w i x = None
+turn_by_value true false matches stays w i x = Some (passing w i x)
+turn_by_value true true false stays w i x = None
+turn_by_value true true true false w i x = Some (ending w i x)
+turn_by_value true true true true w i x = Some (staying w i x)
 
 -- the lent cells: a leader that stays is put before the others
 abbrev pub cells_by : (inside leads matches stays : Bool) → Walk → ℕ → List ℕ → List ℕ
@@ -64,13 +60,13 @@ cells_by true true false stays w i cells = cells
 cells_by true true true false w i cells = cells
 cells_by true true true true w i cells = set cells (w.from - 1) i
 
-abbrev pub turn_at : (s area : List ℤ) (k : ℕ) (v : ℤ) → Walk → ℕ → Turn
+abbrev pub turn_at : (s area : List ℤ) (k : ℕ) (v : ℤ) → Walk → ℕ → Option Walk
 turn_at s area k v w i = turn_by_value (in_range (value_at s i)) (lt_z w.top (value_at s i)) (matched_at area w.unmatched i) (stays_at i k (value_at s i) v) w i (value_at s i)
 
 abbrev pub cells_at : (s area : List ℤ) (k : ℕ) (v : ℤ) → Walk → ℕ → List ℕ → List ℕ
 cells_at s area k v w i cells = cells_by (in_range (value_at s i)) (lt_z w.top (value_at s i)) (matched_at area w.unmatched i) (stays_at i k (value_at s i) v) w i cells
 
-unfoldable pub turned : (s area : List ℤ) (k : ℕ) (v : ℤ) → Walk → Turn
+unfoldable pub turned : (s area : List ℤ) (k : ℕ) (v : ℤ) → Walk → Option Walk
 turned s area k v w = turn_at s area k v w (before (length s) w.slot)
 
 unfoldable pub cells_after : (s area : List ℤ) (k : ℕ) (v : ℤ) → Walk → List ℕ → List ℕ
@@ -80,5 +76,5 @@ cells_after s area k v w cells = cells_at s area k v w (before (length s) w.slot
 abbrev pub found_by : ℕ → Numbers → ℤ → Walk → Found
 found_by n at v w = record { size = n; held = at.held; next = at.next; total = at.total; largest = w.top; sum = at.total -ℤ leaving_of n at.held w.last +ℤ v; top = w.best; from = w.from }
 
-unfoldable pub concluded : ℕ → Numbers → ℤ → Walk → Checked
-concluded n at v w = cond (eqb w.unmatched 0 && same_number at.total w.sum) (Checked.Kept (found_by n at v w)) Checked.Wrong
+unfoldable pub concluded : ℕ → Numbers → ℤ → Walk → Option Found
+concluded n at v w = cond (eqb w.unmatched 0 && same_number at.total w.sum) (Some (found_by n at v w)) None

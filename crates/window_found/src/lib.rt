@@ -16,12 +16,6 @@ pub struct Found {
     pub from: usize,
 }
 
-#[derive(Clone, Copy)]
-pub enum Checked {
-    Kept(Found),
-    Wrong,
-}
-
 // The numbers in a window's first cells, but for its size.
 #[derive(Clone, Copy)]
 pub struct Numbers {
@@ -45,10 +39,4 @@ pub struct Walk {
     // Where the leaders with the value to bring begin in the lent cells, and the value at the first of them.
     pub from: usize,
     pub best: i64,
-}
-
-#[derive(Clone, Copy)]
-pub enum Turn {
-    On(Walk),
-    Wrong,
 }

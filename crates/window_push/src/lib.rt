@@ -9,27 +9,21 @@ ghost use Rattle.window_push.specs.Parts as Parts;
 ghost use Rattle.window_push.specs.Parts.{stored};
 
 use limits::PAST_WINDOW;
-use window_cells::{clear, put};
+use window_cells::put;
 use window_found::Found;
 
 fn after(size: usize, slot: usize) -> usize
     requires { slot < size }
     ensures { (result ≡ Window.after size slot) × (result ≤ size) }
 {
-    if slot + 1 == size {
-        return 0;
-    }
-    slot + 1
+    if slot + 1 == size { 0 } else { slot + 1 }
 }
 
 fn grown(size: usize, held: usize) -> usize
     requires { held ≤ size }
     ensures { (result ≡ Ring.grown size held) × (result ≤ size) }
 {
-    if held < size {
-        return held + 1;
-    }
-    held
+    if held < size { held + 1 } else { held }
 }
 
 // The leaders' cells: these slots, and 0 in the rest.
@@ -39,7 +33,7 @@ fn lay(area: &mut [i64], leaders: &[u8])
 {
     let count = leaders.len();
     put(&mut area[..count], leaders);
-    clear(&mut area[count..]);
+    area[count..].fill(0);
 }
 
 // The numbers of a window and the value in its slot.
@@ -67,15 +61,16 @@ pub fn renew(buffer: &mut [i64], found: Found, value: i64, leaders: &[u8])
     requires { Parts.ValueBrought buffer.old found value leaders.now }
     ensures { buffer.new ≡ written (size_in_value buffer.old) (Window.after (size_in_value buffer.old) (next_in buffer.old)) (values_with value buffer.old) buffer.old }
 {
-    let size = found.size;
-    let next = found.next;
-    let from = found.from;
-    let held = grown(size, found.held);
-    let following = after(size, next);
+    let Found {
+        size,
+        next,
+        from,
+        ..
+    } = found;
     store(
         buffer,
-        held,
-        following,
+        grown(size, found.held),
+        after(size, next),
         found.sum,
         PAST_WINDOW - from,
         next,

@@ -9,10 +9,10 @@ ghost use Rattle.window_found.specs.Parts as Parts;
 ghost use Rattle.window_found.specs.Turns.{Ended, concluded};
 ghost use Rattle.window_found.specs.Checks.{Walked};
 
+use crate::turn::one_turn;
 use limits::{PAST_WINDOW, WINDOW};
 use value::MARK;
-use window_cells::same;
-use window_found::{Checked, Found, Numbers, Turn, Walk};
+use window_found::{Found, Numbers, Walk};
 
 pub mod turn;
 
@@ -20,26 +20,20 @@ pub mod turn;
 fn leaving(size: usize, held: usize, last: i64) -> i64
     ensures { result ≡ leaving_of size held last }
 {
-    if held == size {
-        return last;
-    }
-    0
+    if held == size { last } else { 0 }
 }
 
 // The end of the walk: each leader cell is matched, and the total's cell is the sum.
-fn conclude(size: usize, at: Numbers, value: i64, w: Walk) -> Checked
+fn conclude(size: usize, at: Numbers, value: i64, w: Walk) -> Option<Found>
     requires { Ended value w }
     ensures { result ≡ concluded size at value w }
 {
-    if 0 < w.unmatched {
-        return Checked::Wrong;
-    }
-    if !same(at.total, w.sum) {
-        return Checked::Wrong;
+    if w.unmatched != 0 || at.total != w.sum {
+        return None;
     }
     let less = at.total - leaving(size, at.held, w.last);
-    Checked::Kept(Found {
-        size: size,
+    Some(Found {
+        size,
         held: at.held,
         next: at.next,
         total: at.total,
@@ -57,14 +51,13 @@ pub fn walk_back(
     at: Numbers,
     value: i64,
     leaders: &mut [u8; PAST_WINDOW],
-) -> Checked
+) -> Option<Found>
     requires { Parts.Window slots.now area.now at × (in_range value ≡ true) × (length leaders.old ≡ past_window) }
     ensures { Walked slots.now area.now at value result leaders.new }
 {
-    let next = at.next;
-    leaders[WINDOW] = next as u8;
+    leaders[WINDOW] = at.next as u8;
     let mut w = Walk {
-        slot: next,
+        slot: at.next,
         last: 0,
         sum: 0,
         top: MARK,
@@ -72,13 +65,8 @@ pub fn walk_back(
         from: WINDOW,
         best: value,
     };
-    let mut left = at.held;
-    while 0 < left {
-        let Turn::On(further) = crate::turn::one_turn(slots, area, next, value, w, leaders) else {
-            return Checked::Wrong;
-        };
-        w = further;
-        left -= 1;
+    for _ in 0..at.held {
+        w = one_turn(slots, area, at.next, value, w, leaders)?;
     }
     conclude(slots.len(), at, value, w)
 }

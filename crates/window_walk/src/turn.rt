@@ -6,36 +6,27 @@ ghost use Rattle.window_found.specs.Turns.{ReadyForTurn, matched_at, stays_at, t
 use limits::PAST_WINDOW;
 use value::in_range;
 use window_cells::number_at;
-use window_found::{Turn, Walk};
+use window_found::Walk;
 
 fn before(size: usize, slot: usize) -> usize
     requires { slot < size }
     ensures { (result ≡ Leaders.before size slot) × (result < size) }
 {
-    if slot == 0 {
-        return size - 1;
-    }
-    slot - 1
+    if slot == 0 { size - 1 } else { slot - 1 }
 }
 
 // Whether the last leader cell that is not matched yet names the slot.
 fn is_matched(area: &[i64], unmatched: usize, slot: usize) -> bool
     ensures { result ≡ matched_at area.now unmatched slot }
 {
-    if unmatched == 0 {
-        return false;
-    }
-    number_at(area, unmatched - 1) == slot
+    unmatched != 0 && number_at(area, unmatched - 1) == slot
 }
 
 // Whether a leader stays: it does not leave, and is greater than the value.
 fn is_staying(slot: usize, next: usize, leader: i64, value: i64) -> bool
     ensures { result ≡ stays_at slot next leader value }
 {
-    if slot == next {
-        return false;
-    }
-    value < leader
+    slot != next && value < leader
 }
 
 // One more value of the walk, the one before in the ring. A leader that stays is put before those that were found.
@@ -46,33 +37,40 @@ pub fn one_turn(
     value: i64,
     w: Walk,
     leaders: &mut [u8; PAST_WINDOW],
-) -> Turn
+) -> Option<Walk>
     requires { ReadyForTurn slots.now w }
     ensures { (result ≡ turned slots.now area.now next value w) × (leaders.new ≡ cells_after slots.now area.now next value w leaders.old) }
 {
     let slot = before(slots.len(), w.slot);
     let v = slots[slot];
     if !in_range(v) {
-        return Turn::Wrong;
+        return None;
     }
-    let mut further = w;
-    further.slot = slot;
-    further.last = v;
-    further.sum = w.sum + v;
+    let passed = Walk {
+        slot,
+        last: v,
+        sum: w.sum + v,
+        ..w
+    };
     if v <= w.top {
-        return Turn::On(further);
+        return Some(passed);
     }
     if !is_matched(area, w.unmatched, slot) {
-        return Turn::Wrong;
+        return None;
     }
-    further.top = v;
-    further.unmatched = w.unmatched - 1;
+    let matched = Walk {
+        top: v,
+        unmatched: w.unmatched - 1,
+        ..passed
+    };
     if !is_staying(slot, next, v, value) {
-        return Turn::On(further);
+        return Some(matched);
     }
     let from = w.from - 1;
     leaders[from] = slot as u8;
-    further.from = from;
-    further.best = v;
-    Turn::On(further)
+    Some(Walk {
+        from,
+        best: v,
+        ..matched
+    })
 }

@@ -10,14 +10,14 @@ left_of-requires c = let row = c.requires.0 in row_inside row.image _ row.listed
 pub has-requires : goal.has-requires
 has-requires c = let row = c.requires.0 in omega (arith, c.left_of.ensures, row.image.lefts _ row.listed)
 
-pub returns-then-not-has : goal.returns-then-not-has
-returns-then-not-has c =
-    λ count lt. reaches_not c.args.rows.now _ lt _ (rw c.left_of.ensures at (sym c.has.ensures ∙ c.if-not-has.true))
+pub returns-else-has : goal.returns-else-has
+returns-else-has c =
+    λ count lt. reaches_not c.args.rows.now _ lt _ (rw c.left_of.ensures at (sym c.has.ensures ∙ c.if-has.false))
 
 pub bounds-rights-k : goal.bounds-rights-k
 bounds-rights-k c = let row = c.requires.0 in omega (arith, row.image.few, row.listed)
 
-pub returns : goal.returns
-returns c =
+pub returns-then-has : goal.returns-then-has
+returns-then-has c =
     λ count lt. rw c.union.ensures.word
-    (reaches_new c.args.rows.now _ lt _ _ (rw c.left_of.ensures at (sym c.has.ensures ∙ c.if-not-has.false)) c.requires.1)
+    (reaches_new c.args.rows.now _ lt _ _ (rw c.left_of.ensures at (sym c.has.ensures ∙ c.if-has.true)) c.requires.1)

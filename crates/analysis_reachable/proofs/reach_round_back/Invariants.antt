@@ -4,6 +4,3 @@ use Rattle.analysis_reachable.proofs.reach_round_back.Given as goal
 
 abbrev pub invariant-loop-k : goal.invariant-loop-k
 invariant-loop-k l = Backward (ReachAt l.rows) l.count l.k l.initial.next.0 l.next.0
-
-abbrev pub decreases-loop-k : goal.decreases-loop-k
-decreases-loop-k l = l.k

@@ -4,13 +4,13 @@ use native.Mathlib.Omega.{arith}
 use mathlib.Core.Path.{◌≡◌, refl, sym, ap, ap₂, ◌∙◌, subst}
 use mathlib.Core.Bool.{Bool}
 use mathlib.Core.Option.{Option, none, some}
-use mathlib.Core.List.{List, reverse}
+use mathlib.Core.List.{List}
 use lib.ListN.{get_or, length, length-reverse}
 use Rattle.meaning.specs.Limits.{nonterminals_limit}
 use Rattle.meaning.specs.Base.{count_from}
 use Rattle.meaning.specs.Grammar.{Grammar, nonterminal_count}
 use Rattle.meaning.specs.Table.{State}
-use Rattle.meaning.specs.Judgement.{counts_offset}
+use Rattle.meaning.specs.Judgement.{rejected, counts_offset}
 use Rattle.meaning.specs.Decide.{is_left_recursive, clashes, first_where, judge}
 use Rattle.theory_table.specs.Places.{Places, read_places}
 use Rattle.theory_sets.specs.Verdicts.{Result, searched}
@@ -19,7 +19,10 @@ use Rattle.outline.specs.Outline.{state_in, grammar_in, Productions}
 use Rattle.analysis.specs.Numbers.{Found}
 use Rattle.analysis.specs.Finding.{Finding, fine, useless, recursive, clashing, or_else, otherwise, is_useless, flaw, lowest_clash, finding_number, index_of, verdict_from, judge_is, Analysed, found_clash, found_no_clash}
 use Rattle.checker.specs.grammar.Concludes.{Concludes}
-use Rattle.checker.specs.declared.grammar.Judged.TheVariants.{Usable, Unusable}
+use Rattle.std.specs.Prelude.{Ok, Err}
+use Rattle.refusals.specs.Numbers.{fault_number}
+use Rattle.refusals.specs.declared.TableFault.{TableFault}
+use Rattle.refusals.specs.declared.TableFault.TheVariants.{Clash}
 
 module _ (t : List ℕ) (sizes : Sizes) (rows offsets : List ℕ) (x : Productions t rows offsets sizes.productions) where
   abbrev s : State
@@ -81,17 +84,27 @@ module _ (t : List ℕ) (sizes : Sizes) (rows offsets : List ℕ) (x : Productio
         go (recursive m) u e = omega (arith, x.rows_of.narrow)
         go (clashing p) u e = absurd u
 
-    pub flaw_concludes : (n ≡ 0 → ⊥) → Concludes t sizes sets (Unusable n (7 + 5 * i)) (judge s)
-    flaw_concludes z = go (flaw g) refl known
+    -- a flaw is 11 or 12
+    pub flaw_number : (n ≡ 0 → ⊥) → (n ≡ 11 → ⊥) → n ≡ 12
+    flaw_number z y = go (flaw g) refl known
       where
-        go : (f : Finding) → flaw g ≡ f → Known f → Concludes t sizes sets (Unusable n (7 + 5 * i)) (judge s)
+        go : (f : Finding) → flaw g ≡ f → Known f → n ≡ 12
+        go fine e u = absurd (z (a.number ∙ ap finding_number e))
+        go (useless m) e u = absurd (y (a.number ∙ ap finding_number e))
+        go (recursive m) e u = a.number ∙ ap finding_number e
+        go (clashing p) e u = absurd u
+
+    pub flaw_concludes : (n ≡ 0 → ⊥) → (fault : TableFault) → fault_number fault ≡ n → Concludes t sizes sets (Err (record { fault = fault; offset = 7 + 5 * i })) (judge s)
+    flaw_concludes z fault q = go (flaw g) refl known
+      where
+        go : (f : Finding) → flaw g ≡ f → Known f → judge s ≡ rejected (fault_number fault) (7 + 5 * i)
         go fine e u = absurd (z (a.number ∙ ap finding_number e))
         go (useless m) e u =
-            subst (Concludes t sizes sets (Unusable n (7 + 5 * i))) (sym (judged_by_lem (useless m) (lowest_clash g) e refl))
-            (ap₂ Unusable (a.number ∙ ap finding_number e) (ap (λ k. 7 + 5 * k) (a.index ∙ ap index_of e) ∙ counts_place m u))
+            judged_by_lem (useless m) (lowest_clash g) e refl
+            ∙ sym (ap₂ rejected (q ∙ a.number ∙ ap finding_number e) (ap (λ k. 7 + 5 * k) (a.index ∙ ap index_of e) ∙ counts_place m u))
         go (recursive m) e u =
-            subst (Concludes t sizes sets (Unusable n (7 + 5 * i))) (sym (judged_by_lem (recursive m) (lowest_clash g) e refl))
-            (ap₂ Unusable (a.number ∙ ap finding_number e) (ap (λ k. 7 + 5 * k) (a.index ∙ ap index_of e) ∙ counts_place m u))
+            judged_by_lem (recursive m) (lowest_clash g) e refl
+            ∙ sym (ap₂ rejected (q ∙ a.number ∙ ap finding_number e) (ap (λ k. 7 + 5 * k) (a.index ∙ ap index_of e) ∙ counts_place m u))
         go (clashing p) e u = absurd u
 
     module _ (z : n ≡ 0) (p : ℕ) (d : Found (clashes g) sizes.productions p) where
@@ -107,12 +120,8 @@ module _ (t : List ℕ) (sizes : Sizes) (rows offsets : List ℕ) (x : Productio
       found : Found (clashes g) (length g.productions) p
       found = subst (λ m. Found (clashes g) m p) (sym many) d
 
-      pub clash_concludes : p < sizes.productions → Concludes t sizes sets (Unusable 13 (get_or offsets p 0)) (judge s)
-      clash_concludes l =
-          subst (Concludes t sizes sets (Unusable 13 (get_or offsets p 0))) (sym (judged_by_lem fine (clashing p) flawless (found_clash g p found (omega (arith, many)))))
-          (ap (Unusable 13) (x.offset p l))
+      pub clash_concludes : p < sizes.productions → Concludes t sizes sets (Err (record { fault = Clash; offset = get_or offsets p 0 })) (judge s)
+      clash_concludes l = judged_by_lem fine (clashing p) flawless (found_clash g p found (omega (arith, many))) ∙ sym (ap (rejected 13) (x.offset p l))
 
-      pub none_concludes : sizes.productions ≤ p → Concludes t sizes sets (Usable sizes) (judge s)
-      none_concludes l =
-          subst (Concludes t sizes sets (Usable sizes)) (sym (judged_by_lem fine fine flawless (found_no_clash g p found (omega (arith, many)))))
-          (refl, λ q m. a.starting z q (omega (arith, many)))
+      pub none_concludes : sizes.productions ≤ p → (u : Unit {0}) → Concludes t sizes sets (Ok u) (judge s)
+      none_concludes l u = (judged_by_lem fine fine flawless (found_no_clash g p found (omega (arith, many))), λ q m. a.starting z q (omega (arith, many)))

@@ -1,29 +1,28 @@
-use mathlib.Core.Path.{◌≡◌, refl, sym, ◌∙◌}
-use native.Mathlib.Omega.{arith}
+use Rattle.std.proofs.Common.{refl, sym, ◌∙◌, le_refl, ◌≤◌, arith}
 use borrow.Author.Tests.{eqb-true, not-false}
+use Rattle.meaning.specs.Limits.{productions_limit}
 use Rattle.outline.specs.Images.{image_of}
 use Rattle.analysis.specs.Numbers.{found_none, found_here}
 use Rattle.clash.specs.Clashing.{given_place, crossing_clear, crossing_clashes}
 use Rattle.clash.proofs.lowest_clash.Goals as goal
 
-pub first_crossing-first-requires : goal.first_crossing-first-requires
-first_crossing-first-requires c = image_of c.requires.productions.rows_of
+pub first_crossing-requires : goal.first_crossing-requires
+first_crossing-requires c = image_of c.requires.productions.rows_of
 
-pub returns-then-count-first : goal.returns-then-count-first
-returns-then-count-first c =
-    let e : c.first_crossing-first.result ≡ c.args.count = omega (arith, c.first_crossing-first.ensures.upto, c.if-count-first.true) in
-    found_none _ _ _ refl (rw e at (crossing_clear c.requires c.first_crossing-first.ensures))
+pub returns-in_default : goal.returns-in_default
+returns-in_default c = found_none _ _ _ refl (crossing_clear c.requires (le_refl _) c.in_default.ensures)
 
 pub has_entry-requires : goal.has_entry-requires
 has_entry-requires c =
-    let given = c.requires in
-    (omega (arith, (image_of given.productions.rows_of).few, c.if-count-first.false), given_place given _ c.if-count-first.false)
+    let few : c.args.count ≤ productions_limit = (image_of c.requires.productions.rows_of).few in
+    let first = c.in-Some.ensures in
+    (omega (arith, few, first.0), given_place c.requires _ first.0)
 
 pub returns-then-not-has_entry : goal.returns-then-not-has_entry
 returns-then-not-has_entry c =
-    let given = c.requires in
+    let first = c.in-Some.ensures in
     let none = eqb-true _ _ (not-false _ (sym c.has_entry.ensures ∙ c.if-not-has_entry.true)) in
-    found_here _ _ _ c.if-count-first.false (crossing_clear given c.first_crossing-first.ensures) (crossing_clashes given c.first_crossing-first.ensures c.if-count-first.false none)
+    found_here _ _ _ first.0 (crossing_clear c.requires (omega (arith, first.0)) first.1) (crossing_clashes c.requires first.0 first.2 none)
 
 pub meeting-met-requires : goal.meeting-met-requires
 meeting-met-requires c = image_of c.requires.productions.rows_of

@@ -1,4 +1,4 @@
-use Prim.Native.Nat.{ℕ, ◌-◌, ◌<◌}
+use Prim.Native.Nat.{◌+◌, ◌-◌, ◌<◌}
 use native.Mathlib.Omega.{arith}
 use mathlib.Core.Path.{refl, sym, ap, ◌∙◌, ◌≡◌}
 use mathlib.Core.List.{List}
@@ -16,24 +16,10 @@ eliminate-requires c =
     let o = c.loop-k in
     (o.invariant.2, omega arith, room_low o.m o.k (omega arith) o.invariant.3)
 
-pub overflow_sub-k : goal.overflow_sub-k
-overflow_sub-k c = omega arith
-
-pub loop-k-smaller : goal.loop-k-smaller
-loop-k-smaller c = omega arith
-
 pub loop-k-preserved : goal.loop-k-preserved
 loop-k-preserved c =
     let o = c.loop-k in
     let t : 0 < o.k = omega arith in
-    let e = c.eliminate.ensures in
+    let back : o.k - 1 + 1 ≡ o.k = omega arith in
+    let e = rw back at c.eliminate.ensures in
     (omega arith, o.invariant.1 ∙ closing_turn o.m o.k t ∙ ap (λ (l : List ℤ). closing l (o.k - 1)) (sym e), c.eliminate.auto.m ∙ o.invariant.2, rw e (small_turn o.m o.k t (omega arith) o.invariant.2 o.invariant.3))
-
-pub shape_of-m : goal.shape_of-m
-shape_of-m c = c.loop-k.invariant.2 ∙ sym c.requires.0
-
-pub returns : goal.returns
-returns c =
-    let o = c.loop-k in
-    let e : o.k ≡ 0 = omega arith in
-    sym (o.invariant.1 ∙ ap (λ (k : ℕ). closing o.m k) e)

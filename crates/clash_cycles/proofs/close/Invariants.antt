@@ -8,6 +8,3 @@ use Rattle.clash_cycles.proofs.close.Given as goal
 
 abbrev pub invariant-loop-k : goal.invariant-loop-k
 invariant-loop-k l = (l.k ≤ attributes_limit) × (closed l.initial.m ≡ closing l.m l.k) × (length l.m ≡ 81) × Small (room l.k) l.m
-
-abbrev pub decreases-loop-k : goal.decreases-loop-k
-decreases-loop-k l = l.k

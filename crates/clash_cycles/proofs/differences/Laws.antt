@@ -6,7 +6,6 @@ use native.Mathlib.Numerals.{add-one}
 use mathlib.Core.Path.{◌≡◌, refl, sym}
 use mathlib.Core.Bool.{Bool, true, false}
 use mathlib.Core.List.{List, []}
-use lib.Dec.{T}
 use Rattle.meaning.specs.Value.{highest}
 use Rattle.theory_base.specs.Members.{T→true, false_of}
 use lib.IntN.{ℤ, pos, nat_abs, ◌+ℤ◌}
@@ -41,9 +40,9 @@ pub bound_high : (n i : ℕ) → (i ≡ 0 → ⊥) → i ≤ n → bound n i ≡
 bound_high n zero d h = absurd (d refl)
 bound_high n (suc a) d h = bound_there n a h
 
-pub bound_none : (n i : ℕ) → (i ≡ 0 → ⊥) → n < i → bound n i ≡ pos 0
-bound_none n zero d h = absurd (d refl)
-bound_none n (suc a) d h = bound_absent n a (omega arith)
+pub bound_off : (n i : ℕ) → (1 ≤ i → i ≤ n → ⊥) → bound n i ≡ pos 0
+bound_off n zero d = bound_zero n 0 refl
+bound_off n (suc a) d = bound_absent n a (omega (arith, dec_lt n (suc a)))
 
 -- ---- the first t entries of a fresh matrix
 

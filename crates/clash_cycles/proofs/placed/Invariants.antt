@@ -8,6 +8,3 @@ use Rattle.clash_cycles.proofs.placed.Given as goal
 
 abbrev pub invariant-loop-j : goal.invariant-loop-j
 invariant-loop-j l = (1 ≤ l.j) × (l.j ≤ l.k) × (l.x ≡ least (λ i. node_value l.v i +ℤ at l.m l.k i) (l.j - 1))
-
-abbrev pub decreases-loop-j : goal.decreases-loop-j
-decreases-loop-j l = l.k - l.j

@@ -19,16 +19,12 @@ place-requires c =
     let len : length l ≡ 81 = search rules in
     (rw e (closed_size l len), refl, rw e (closed_small l len (small_more limit (room attributes_limit) l (omega arith) s.requires)), zeros_near)
 
-pub returns-then-none_negative : goal.returns-then-none_negative
-returns-then-none_negative c =
-    let s = c in
+pub returns-then-not-none_negative : goal.returns-then-not-none_negative
+returns-then-not-none_negative c =
     let e = c.close in
-    let t = c.none_negative.ensures.clear c.if-none_negative.true in
-    λ n cs h. solved s.args.m e.new.m c.place.new.v n cs e.ensures t c.place.ensures h
+    λ n cs h. unsolved c.args.m e.new.m n cs e.ensures (c.none_negative.ensures.failed c.if-not-none_negative.true) h
 
 pub returns : goal.returns
 returns c =
-    let s = c in
     let e = c.close in
-    let t = c.none_negative.ensures.failed c.if-none_negative.false in
-    λ n cs h. unsolved s.args.m e.new.m _ n cs e.ensures t h
+    λ n cs h. solved c.args.m e.new.m c.place.new.v n cs e.ensures (c.none_negative.ensures.clear c.if-not-none_negative.false) c.place.ensures h

@@ -1,7 +1,6 @@
 -- The ways of the functions on one field and on intervals.
 use Rattle.std.proofs.Common.{◌≡◌, ℕ, ◌-◌, ◌≤◌, min, max, Bool, true, false, eqb, List, get_or, set, ℤ, nat_abs, sym, refl, ap, ◌∙◌, ap₂, to_z-of_z, w64, SFits, to_z, of_z, eq-eqb, ne_eqb}
 use mathlib.Core.Option.{Option, none, some}
-use lib.Seq.{set-get_or}
 use Rattle.meaning.specs.Grammar.{Condition, range, atmost}
 use Rattle.meaning.specs.Table.{byte, constant_at}
 use Rattle.clash_entries.specs.conditions.BoundWords.{biased}
@@ -11,15 +10,6 @@ use Rattle.clash_entries.specs.conditions.EntryConditions.{raise_by, lower_by, e
 
 pub held_size : {z : ℤ} {n : ℕ} → SFits w64 z → nat_abs z ≤ n → nat_abs (to_z w64 (of_z w64 z)) ≤ n
 held_size f l = rw (to_z-of_z f) l
-
--- ---- one end
-
-module _ (ends : List ℕ) (i : ℕ) where
-  pub set_as : (v w : ℕ) → v ≡ w → set ends i v ≡ set ends i w
-  set_as v w e = ap (set ends i) e
-
-  pub kept_as_lem : (w : ℕ) → w ≡ get_or ends i 0 → ends ≡ set ends i w
-  kept_as_lem w e = sym (ap (set ends i) e ∙ set-get_or ends i 0)
 
 -- ---- one field
 

@@ -1,5 +1,6 @@
 // The intervals that the entry conditions of a production leave, one for each inherited attribute: one pass over its fields.
-ghost use Rattle.std.specs.Prelude.{◌≡◌, ◌<◌, ◌≤◌, min, max, true, T, slice_index, slice_set};
+ghost use Rattle.std.specs.Prelude.{◌≡◌, ◌<◌, ◌≤◌, min, max, true, false, T, eqb, ◌+◌};
+ghost use Rattle.clash_entries.specs.conditions.Ranks.{rank};
 ghost use Rattle.meaning.specs.Limits.{attributes_limit};
 ghost use Rattle.meaning.specs.Grammar.{Production};
 ghost use Rattle.meaning.specs.Table.{signed};
@@ -10,29 +11,58 @@ ghost use Rattle.clash_entries.specs.conditions.Walk.{after_all};
 
 use limits::ATTRIBUTES;
 
+// What entry conditions a production has.
+#[derive(Clone, Copy, Debug, PartialEq, Eq)]
+pub enum Entry {
+    // none
+    Free,
+    // ranges alone
+    Ranges,
+    // a comparison
+    Compared,
+}
+
+impl Entry {
+    pub fn is_free(self) -> bool
+        ensures { result ≡ eqb (rank self) 0 }
+    {
+        matches!(self, Entry::Free)
+    }
+
+    pub fn is_ranges(self) -> bool
+        ensures { result ≡ eqb (rank self) 1 }
+    {
+        matches!(self, Entry::Ranges)
+    }
+
+    // Whether the intervals of two productions do not tell all of their entry conditions: both have some, and one of them compares.
+    pub fn need_differences(self, other: Entry) -> bool
+        ensures yes { result ≡ true → 2 < rank self + rank other }
+        ensures no { result ≡ false → rank self + rank other ≤ 2 }
+    {
+        match self {
+            Entry::Free => false,
+            Entry::Ranges => matches!(other, Entry::Compared),
+            Entry::Compared => !matches!(other, Entry::Free),
+        }
+    }
+
+    // With a range more.
+    fn with_range(self) -> Entry
+        ensures { rank result ≡ max 1 (rank self) }
+    {
+        match self {
+            Entry::Free => Entry::Ranges,
+            Entry::Ranges | Entry::Compared => self,
+        }
+    }
+}
+
 // A bound's word that orders as the bounds do.
 fn biased_word(word: u32) -> u32
     ensures { result ≡ biased (signed word) }
 {
-    std::num::wrapping_add_u32(word, 2147483648)
-}
-
-fn raise(ends: &mut [u32; ATTRIBUTES], i: usize, v: u32)
-    requires { i < attributes_limit }
-    ensures { ends.new ≡ slice_set ends.old i (max v (slice_index ends.old i)) }
-{
-    if ends[i] < v {
-        ends[i] = v;
-    }
-}
-
-fn lower(ends: &mut [u32; ATTRIBUTES], i: usize, v: u32)
-    requires { i < attributes_limit }
-    ensures { ends.new ≡ slice_set ends.old i (min v (slice_index ends.old i)) }
-{
-    if v < ends[i] {
-        ends[i] = v;
-    }
+    word.wrapping_add(0x8000_0000)
 }
 
 // The bytes of the field at the front.
@@ -45,31 +75,24 @@ pub fn field_size(field: &[u8]) -> usize
 }
 
 // Whether the field at the front is an entry condition: it reads position 0 alone.
+#[tactic(auto, unfolding(crate::specs::conditions::EntryConditions::entry_here))]
 pub fn is_entry(field: &[u8]) -> bool
     ensures { result ≡ entry_here field.now }
 {
-    if value::byte_at(field, 0) != 5 {
-        return false;
-    }
-    if value::byte_at(field, 4) != 0 {
-        return false;
-    }
-    if value::byte_at(field, 3) == 0 {
-        return true;
-    }
-    value::byte_at(field, 6) == 0
+    value::byte_at(field, 0) == 5
+        && value::byte_at(field, 4) == 0
+        && (value::byte_at(field, 3) == 0 || value::byte_at(field, 6) == 0)
 }
 
-// The intervals narrowed by the field at the front, if it is a range and an entry condition; what entry conditions there
-// have been so far: 0 none, 1 ranges, 2 a comparison.
+// The intervals narrowed by the field at the front, if it is a range and an entry condition; what entry conditions there have been so far.
 fn narrow(
     field: &[u8],
-    found: u8,
+    found: Entry,
     lows: &mut [u32; ATTRIBUTES],
     highs: &mut [u32; ATTRIBUTES],
-) -> u8
+) -> Entry
     requires { entry_here field.now ≡ true → T (entry attributes_limit (condition_here field.now)) }
-    ensures said { result ≡ after_field rank_by field.now found }
+    ensures said { rank result ≡ after_field rank_by field.now (rank found) }
     ensures low { lows.new ≡ after_field raise_by field.now lows.old }
     ensures high { highs.new ≡ after_field lower_by field.now highs.old }
 {
@@ -77,33 +100,35 @@ fn narrow(
         return found;
     }
     if value::byte_at(field, 3) != 0 {
-        return 2;
+        return Entry::Compared;
     }
     let i = value::byte_at(field, 5) as usize - 1;
-    raise(lows, i, biased_word(value::word_at(field, 6)));
-    lower(highs, i, biased_word(value::word_at(field, 10)));
-    if found == 0 {
-        return 1;
-    }
-    found
+    lows[i] = biased_word(value::word_at(field, 6)).max(lows[i]);
+    highs[i] = biased_word(value::word_at(field, 10)).min(highs[i]);
+    found.with_range()
 }
 
 // The intervals narrowed by all entry conditions of the production whose stretch is at the front; what it has of them.
-pub fn narrow_by(stretch: &[u8], lows: &mut [u32; ATTRIBUTES], highs: &mut [u32; ATTRIBUTES]) -> u8
+pub fn narrow_by(
+    stretch: &[u8],
+    lows: &mut [u32; ATTRIBUTES],
+    highs: &mut [u32; ATTRIBUTES],
+) -> Entry
     requires { (p : Production) × Stretch stretch.now p }
-    ensures said { (p : Production) → Stretch stretch.now p → result ≡ after_all rank_by p 0 }
+    ensures said { (p : Production) → Stretch stretch.now p → rank result ≡ after_all rank_by p 0 }
     ensures low { (p : Production) → Stretch stretch.now p → lows.new ≡ after_all raise_by p lows.old }
     ensures high { (p : Production) → Stretch stretch.now p → highs.new ≡ after_all lower_by p highs.old }
 {
-    let mut found: u8 = 0;
+    let mut found = Entry::Free;
     let mut at = field_size(stretch);
+    // Kept: no range, since a field's own size says where the next begins.
     while at < stretch.len() {
         let field = &stretch[at..];
         if value::byte_at(field, 0) == 3 {
             return found;
         }
         found = narrow(field, found, lows, highs);
-        at = at + field_size(field);
+        at += field_size(field);
     }
     found
 }

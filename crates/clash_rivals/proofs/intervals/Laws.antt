@@ -1,8 +1,7 @@
 -- The ways of the test of two productions' intervals.
 use Prim.Native.Nat.{ℕ, ◌+◌, ◌*◌, ◌≤◌, ◌<◌, min, max}
-use native.Mathlib.Decide.{dec_lt}
 use native.Mathlib.Omega.{arith}
-use mathlib.Core.Path.{◌≡◌, sym, subst}
+use mathlib.Core.Path.{◌≡◌, sym}
 use mathlib.Core.Bool.{Bool, true, false}
 use mathlib.Core.List.{List}
 use borrow.Author.Tests.{lt-leb}
@@ -36,12 +35,3 @@ module _ (lows highs : List ℕ) (p q : ℕ) where
   pub none_left : (a : ℕ) → a < attributes_limit → to a < from a → false ≡ leave_values lows highs p q
   unfolding leave_values
   none_left a l h = same_truth false (all overlap_at (count_from 0 attributes_limit)) (λ t. absurd t) (λ t. rw (lt-leb (from a) (to a) h) at (count_all overlap_at 0 attributes_limit t a (omega arith) l))
-
-  pub shared_more : (k : ℕ) → ((a : ℕ) → a < k → Shared a) → Shared k → (a : ℕ) → a < k + 1 → Shared a
-  shared_more k f h a l = go (dec_lt a k)
-    where
-      go : Dec (a < k) → Shared a
-      go (yes m) = f a m
-      go (no m) =
-          let e : k ≡ a = omega arith in
-          subst Shared e h

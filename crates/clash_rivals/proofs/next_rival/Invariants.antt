@@ -1,11 +1,9 @@
-use Prim.Native.Nat.{ℕ, ◌≤◌, ◌<◌, ◌-◌}
+use Rattle.clash_entries.specs.conditions.Ranks.{ranks_of}
+use Prim.Native.Nat.{ℕ, ◌≤◌, ◌<◌}
 use mathlib.Core.Path.{◌≡◌}
 use mathlib.Core.Bool.{false}
 use Rattle.clash_rivals.specs.Rivals.{rival}
 use Rattle.clash_rivals.proofs.next_rival.Given as goal
 
 abbrev pub invariant-loop-earlier : goal.invariant-loop-earlier
-invariant-loop-earlier l = (l.from ≤ l.earlier) × (l.earlier ≤ l.later) × ((j : ℕ) → l.from ≤ j → j < l.earlier → rival l.rows l.sets l.lows l.highs l.ranks l.later j ≡ false)
-
-abbrev pub decreases-loop-earlier : goal.decreases-loop-earlier
-decreases-loop-earlier l = l.later - l.earlier
+invariant-loop-earlier l = (j : ℕ) → l.from ≤ j → j < l.earlier → rival l.rows l.sets l.lows l.highs (ranks_of l.ranks) l.later j ≡ false

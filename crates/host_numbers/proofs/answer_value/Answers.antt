@@ -6,16 +6,7 @@ use Rattle.host_numbers.specs.Lent.{answer_value}
 use borrow.Author.Rules.{rules}
 use Rattle.host_numbers.proofs.answer_value.Goals as goal
 
-pub returns-in-More : goal.returns-in-More
-returns-in-More c = sym (ap (λ z. answer_value (answer_is z)) c.in-More.is)
-
 pub returns-in-Value : goal.returns-in-Value
 returns-in-Value c =
     let t : to_z w64 (of_z w64 c.in-Value.v) ≡ c.in-Value.v = search rules in
     t ∙ sym (ap (λ z. answer_value (answer_is z)) c.in-Value.is)
-
-pub returns-in-Refused : goal.returns-in-Refused
-returns-in-Refused c = sym (ap (λ z. answer_value (answer_is z)) c.in-Refused.is)
-
-pub returns-in-TableRefused : goal.returns-in-TableRefused
-returns-in-TableRefused c = sym (ap (λ z. answer_value (answer_is z)) c.in-TableRefused.is)

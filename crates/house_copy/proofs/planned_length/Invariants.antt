@@ -1,12 +1,7 @@
-use Prim.Native.Nat.{◌-◌, ◌*◌, ◌≤◌}
-use mathlib.Core.Path.{◌≡◌}
-use lib.ListN.{length, take}
+use Rattle.std.proofs.Common.{length, take, ◌*◌, ◌≤◌, ◌≡◌}
 use Rattle.meaning.specs.Limits.{table_limit}
 use Rattle.theory_order.specs.Planning.{copied}
 use Rattle.house_copy.proofs.planned_length.Given as goal
 
-abbrev pub invariant-loop-i : goal.invariant-loop-i
-invariant-loop-i l = (l.i ≤ length l.order) × (l.sum ≡ length (copied l.table (take l.i l.order))) × (l.sum ≤ l.i * table_limit)
-
-abbrev pub decreases-loop-i : goal.decreases-loop-i
-decreases-loop-i l = length l.order - l.i
+abbrev pub invariant-loop-at : goal.invariant-loop-at
+invariant-loop-at l = (l.sum ≡ length (copied l.table (take l.at-index l.order))) × (l.sum ≤ l.at-index * table_limit)

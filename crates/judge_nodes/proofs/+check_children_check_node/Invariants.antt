@@ -1,5 +1,4 @@
-use Rattle.std.proofs.Common.{◌≡◌, ◌+◌, ◌-◌, ◌*◌, ◌≤◌}
-use Rattle.outline.specs.Images.{size_at}
+use Rattle.std.proofs.Common.{◌+◌, ◌*◌}
 use Rattle.judge_nodes.specs.parts.Checked.{ChildrenPassed}
 use Rattle.judge_nodes.proofs.+check_children_check_node.Given as goal
 
@@ -11,7 +10,4 @@ decreases-check_node l = 2 * l.tree.depth
 
 abbrev pub invariant-check_children-loop-k : goal.invariant-check_children-loop-k
 invariant-check_children-loop-k l =
-    (l.size ≡ size_at l.rows l.node.production) × (l.k ≤ l.size) × ChildrenPassed l.table l.rows l.inh l.syn l.offsets l.kinds l.values l.sheet l.node.production l.node.behind l.node.from l.node.depth l.initial.marks l.k l.next l.end l.marks
-
-abbrev pub decreases-check_children-loop-k : goal.decreases-check_children-loop-k
-decreases-check_children-loop-k l = l.size - l.k
+    ChildrenPassed l.table l.rows l.inh l.syn l.offsets l.kinds l.values l.sheet l.node.production l.node.behind l.node.from l.node.depth l.initial.marks l.k l.ends.next l.ends.end l.marks

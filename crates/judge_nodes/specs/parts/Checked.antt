@@ -1,5 +1,5 @@
 -- What the functions that go through a sheet ask, and what their answers mean.
-use Rattle.std.specs.Prelude.{◌≡◌, ℕ, ◌-◌, ◌<◌, ◌≤◌, Bool, cond, List, length, ℤ, ◌==◌, slice_index, slice_index_or}
+use Rattle.std.specs.Prelude.{◌≡◌, ℕ, ◌-◌, ◌<◌, ◌≤◌, Bool, cond, Option, Some, None, List, length, ℤ, ◌==◌, slice_index, slice_index_or}
 use Rattle.meaning.specs.Limits.{positions_limit, productions_limit}
 use Rattle.meaning.specs.Grammar.{Grammar, terminal, Leaf, leaves, production_at, nonterminal_base}
 use Rattle.meaning.specs.Rules.{Known}
@@ -10,15 +10,15 @@ use Rattle.outline.specs.Outline.{grammar_in, CountsOf, Productions}
 use Rattle.outline.specs.Images.{HasRow, row_count}
 use Rattle.program_words.specs.Fields.{fields_from, stretch_end, fields_at}
 use Rattle.theory_judge.specs.Described.{Described, DescribedAll}
-use Rattle.theory_judge.specs.Passing.{Only, None, Marked, Upto}
+use Rattle.theory_judge.specs.Passing as Passing
+use Rattle.theory_judge.specs.Passing.{Only, Marked, Upto}
 use Rattle.program_block_words.specs.Fields.{Listed}
 use Rattle.judge_nodes.specs.head.Heads.{HeadIs}
 use Rattle.judge_nodes.specs.declared.parts.Subtree.{Subtree}
+use Rattle.judge_nodes.specs.declared.parts.Ends.{Ends}
 use Rattle.judge_nodes.specs.declared.parts.Node.{Node}
 use Rattle.judge_nodes.specs.declared.parts.Begun.{Begun}
-use Rattle.judge_nodes.specs.declared.parts.Begun.TheVariants.{Over, Inside}
-use Rattle.judge_nodes.specs.declared.parts.Answer.{Answer}
-use Rattle.judge_nodes.specs.declared.parts.Answer.TheVariants.{Fits, Wrong}
+use Rattle.judge_nodes.specs.declared.parts.Begun.TheVariants.{Token, Inside}
 
 -- the bytes of the rules and conditions of production p, where the rows hold all productions
 abbrev pub fields_of : List ℕ → List ℕ → List ℕ → ℕ → List ℕ
@@ -40,13 +40,13 @@ leaves_in g ks vs = leaves g (tokens_from ks vs)
 -- ---- answers
 
 -- these ends and no others, or none
-unfoldable pub EndsOrNone : (ℕ → ℕ → Type 0) → Answer → Type 0
-EndsOrNone P (Fits n e) = Only P n e
-EndsOrNone P Wrong = None P
+unfoldable pub EndsOrNone : (ℕ → ℕ → Type 0) → Option Ends → Type 0
+EndsOrNone P (Some r) = Only P r.next r.end
+EndsOrNone P None = Passing.None P
 
 -- ---- a token
 
-abbrev pub TokenEnds : List ℕ → List ℤ → ℕ → ℕ → ℕ → Answer → Type 0
+abbrev pub TokenEnds : List ℕ → List ℤ → ℕ → ℕ → ℕ → Option Ends → Type 0
 TokenEnds ks vs at from k r = (g : Grammar) (sheet : List ℕ) (d : ℕ) → length ks ≡ length vs → EndsOrNone (Described g (leaves_in g ks vs) sheet at from (terminal k) d) r
 
 -- ---- a node, and the children of a production
@@ -56,7 +56,7 @@ pub record NodeReady (table rows inherited synthesized offsets ks : List ℕ) (v
   pub known : Known (grammar_in table) (symbol_of symbol)
   pub low : from ≤ length ks
 
-abbrev pub NodeEnds : List ℕ → List ℕ → List ℕ → List ℕ → List ℕ → List ℕ → List ℤ → List ℕ → ℕ → ℕ → ℕ → ℕ → Answer → Type 0
+abbrev pub NodeEnds : List ℕ → List ℕ → List ℕ → List ℕ → List ℕ → List ℕ → List ℤ → List ℕ → ℕ → ℕ → ℕ → ℕ → Option Ends → Type 0
 NodeEnds table rows inherited synthesized offsets ks vs sheet at from symbol d r =
     (x : NodeReady table rows inherited synthesized offsets ks vs sheet from symbol) → EndsOrNone (Described (grammar_in table) (leaves_in (grammar_in table) ks vs) sheet at from (symbol_of symbol) d) r
 
@@ -66,19 +66,16 @@ pub record ChildrenReady (table rows inherited synthesized offsets ks : List ℕ
   pub low : from ≤ length ks
 
 -- the marks of the children behind that of the node itself
-unfoldable pub EndsAndMarks : Grammar → List ℕ → List ℤ → List ℕ → ℕ → ℕ → ℕ → ℕ → List ℕ → List ℕ → Answer → Type 0
-EndsAndMarks g ks vs sheet p at from d old new (Fits n e) =
-    Only (DescribedAll g (leaves_in g ks vs) sheet at from (production_at g p).right d) n e × Marked g (leaves_in g ks vs) sheet vs at from (production_at g p).right d new × (slice_index new 0 ≡ slice_index old 0) × (length new ≡ positions_limit)
-EndsAndMarks g ks vs sheet p at from d old new Wrong = None (DescribedAll g (leaves_in g ks vs) sheet at from (production_at g p).right d)
+unfoldable pub EndsAndMarks : Grammar → List ℕ → List ℤ → List ℕ → ℕ → ℕ → ℕ → ℕ → List ℕ → List ℕ → Option Ends → Type 0
+EndsAndMarks g ks vs sheet p at from d old new (Some r) =
+    Only (DescribedAll g (leaves_in g ks vs) sheet at from (production_at g p).right d) r.next r.end × Marked g (leaves_in g ks vs) sheet vs at from (production_at g p).right d new × (slice_index new 0 ≡ slice_index old 0) × (length new ≡ positions_limit)
+EndsAndMarks g ks vs sheet p at from d old new None = Passing.None (DescribedAll g (leaves_in g ks vs) sheet at from (production_at g p).right d)
 
-abbrev pub ChildrenEnds : List ℕ → List ℕ → List ℕ → List ℕ → List ℕ → List ℕ → List ℤ → List ℕ → ℕ → ℕ → ℕ → ℕ → List ℕ → List ℕ → Answer → Type 0
+abbrev pub ChildrenEnds : List ℕ → List ℕ → List ℕ → List ℕ → List ℕ → List ℕ → List ℤ → List ℕ → ℕ → ℕ → ℕ → ℕ → List ℕ → List ℕ → Option Ends → Type 0
 ChildrenEnds table rows inherited synthesized offsets ks vs sheet p at from d old new r =
     (x : ChildrenReady table rows inherited synthesized offsets ks vs sheet p from) → EndsAndMarks (grammar_in table) ks vs sheet p at from d old new r
 
 -- ---- before the children
-
-abbrev pub subtree_of : ℕ → ℕ → ℕ → ℕ → Subtree
-subtree_of at from symbol depth = record { at = at; from = from; symbol = symbol; depth = depth }
 
 -- the record of the tree is a node of its symbol, and the node is what it says
 pub record NodeIs (rows inherited synthesized sheet : List ℕ) (tree : Subtree) (node : Node) : Type 0 where
@@ -88,9 +85,10 @@ pub record NodeIs (rows inherited synthesized sheet : List ℕ) (tree : Subtree)
   pub from : node.from ≡ tree.from
   pub less : node.depth ≡ tree.depth - 1
 
-abbrev pub Begins : List ℕ → List ℕ → List ℕ → List ℕ → List ℤ → List ℕ → Subtree → Begun → Type 0
-Begins rows inherited synthesized ks vs sheet tree (Over r) = (table offsets : List ℕ) → NodeEnds table rows inherited synthesized offsets ks vs sheet tree.at tree.from tree.symbol tree.depth r
-Begins rows inherited synthesized ks vs sheet tree (Inside node) = NodeIs rows inherited synthesized sheet tree node
+abbrev pub Begins : List ℕ → List ℕ → List ℕ → List ℕ → List ℤ → List ℕ → Subtree → Option Begun → Type 0
+Begins rows inherited synthesized ks vs sheet tree None = (table offsets : List ℕ) → NodeEnds table rows inherited synthesized offsets ks vs sheet tree.at tree.from tree.symbol tree.depth None
+Begins rows inherited synthesized ks vs sheet tree (Some (Token r)) = (table offsets : List ℕ) → NodeEnds table rows inherited synthesized offsets ks vs sheet tree.at tree.from tree.symbol tree.depth (Some r)
+Begins rows inherited synthesized ks vs sheet tree (Some (Inside node)) = NodeIs rows inherited synthesized sheet tree node
 
 -- ---- behind them
 
@@ -103,8 +101,8 @@ pub record Holdable (table rows offsets : List ℕ) (p : ℕ) : Type 0 where
   pub row : HasRow rows p
 
 -- by whether they hold
-abbrev pub closing : Bool → Node → ℕ → ℕ → Answer
-closing h node n e = cond (e - node.from == node.covered) (cond h (Fits n e) Wrong) Wrong
+abbrev pub closing : Bool → Node → Ends → Option Ends
+closing h node r = cond (r.end - node.from == node.covered) (cond h (Some r) None) None
 
 -- ---- children one after the other
 

@@ -1,5 +1,6 @@
 -- What each way out of a node, of its children and of a token shows.
-use Rattle.std.specs.Prelude.{◌≡◌, ℕ, suc, ◌+◌, ◌-◌, ◌*◌, ◌<◌, ◌≤◌, Bool, true, false, cond, List, length, get_or, ℤ, pos, ◌==◌, ◌≢◌, slice_index, slice_index_or, slice_set, refl}
+use Rattle.std.specs.Prelude as Std
+use Rattle.std.specs.Prelude.{Option, ◌≡◌, ℕ, suc, ◌+◌, ◌-◌, ◌*◌, ◌<◌, ◌≤◌, Bool, true, false, cond, List, length, get_or, ℤ, pos, ◌==◌, ◌≢◌, slice_index, slice_index_or, slice_set, refl}
 use Rattle.std.proofs.Common.{arith, ap, ap₂, ◌∙◌, subst₂, length-set, eqb-true, get_or-set_same, get_or-set_other}
 use Rattle.std.proofs.Math.Path.{sym, subst}
 use Rattle.std.proofs.lemmas.Bool.{eqb-false}
@@ -28,26 +29,27 @@ use Rattle.judge_nodes.specs.head.Laws.{head_none}
 use Rattle.judge_nodes.specs.head.Heads.{Heads, HeadIs, HeadOrNone}
 use Rattle.judge_nodes.specs.declared.parts.Subtree.{Subtree}
 use Rattle.judge_nodes.specs.declared.parts.Node.{Node}
-use Rattle.judge_nodes.specs.declared.parts.Answer.{Answer}
-use Rattle.judge_nodes.specs.declared.parts.Answer.TheVariants.{Fits, Wrong}
+use Rattle.judge_nodes.specs.declared.parts.Ends.{Ends}
 use Rattle.judge_nodes.specs.declared.head.Head.{Head}
-use Rattle.judge_nodes.specs.declared.head.Head.TheVariants.{Unfit}
 
 -- ---- answers
 
-pub fits_by_ends : {P : ℕ → ℕ → Type 0} (n e : ℕ) → Only P n e → EndsOrNone P (Fits n e)
+abbrev pub fits : ℕ → ℕ → Option Ends
+fits n e = Std.Some (record { next = n; end = e })
+
+pub fits_by_ends : {P : ℕ → ℕ → Type 0} (n e : ℕ) → Only P n e → EndsOrNone P (fits n e)
 unfolding EndsOrNone
 fits_by_ends n e h = h
 
-pub wrong_by_none : {P : ℕ → ℕ → Type 0} → None P → EndsOrNone P Wrong
+pub wrong_by_none : {P : ℕ → ℕ → Type 0} → None P → EndsOrNone P Std.None
 unfolding EndsOrNone
 wrong_by_none h = h
 
-pub ends_of_fits : {P : ℕ → ℕ → Type 0} (r : Answer) (n e : ℕ) → EndsOrNone P r → r ≡ Fits n e → Only P n e
+pub ends_of_fits : {P : ℕ → ℕ → Type 0} (r : Option Ends) (n e : ℕ) → EndsOrNone P r → r ≡ fits n e → Only P n e
 unfolding EndsOrNone
 ends_of_fits {P = P} r n e t q = subst (λ z. EndsOrNone P z) q t
 
-pub none_of_wrong : (P : ℕ → ℕ → Type 0) (r : Answer) → EndsOrNone P r → r ≡ Wrong → None P
+pub none_of_wrong : (P : ℕ → ℕ → Type 0) (r : Option Ends) → EndsOrNone P r → r ≡ Std.None → None P
 unfolding EndsOrNone
 none_of_wrong P r t q = subst (λ z. EndsOrNone P z) q t
 
@@ -62,16 +64,16 @@ mark_high n b at from l = sym (ap (λ x. mark_of n x at from) (symbol_nontermina
 -- ---- a token
 
 module _ (ks : List ℕ) (vs : List ℤ) (at from k : ℕ) where
-  pub token_over : length ks ≤ from → TokenEnds ks vs at from k Wrong
+  pub token_over : length ks ≤ from → TokenEnds ks vs at from k Std.None
   token_over l g sheet d e = wrong_by_none (P.token_over g (leaves_in g ks vs) sheet at from k d (omega (arith, leaves_many g ks vs e)))
 
   kind_is_lem : (g : Grammar) → length ks ≡ length vs → from < length ks → (get_or (leaves_in g ks vs) from no_leaf).kind ≡ slice_index ks from
   kind_is_lem g e l = ap (λ u. u.kind) (leaf_at g ks vs from (omega (arith, leaves_many g ks vs e)))
 
-  pub token_other : from < length ks → (slice_index ks from ≢ k) → TokenEnds ks vs at from k Wrong
+  pub token_other : from < length ks → (slice_index ks from ≢ k) → TokenEnds ks vs at from k Std.None
   token_other l f g sheet d e = wrong_by_none (P.token_other g (leaves_in g ks vs) sheet at from k d (λ q. f (sym (kind_is_lem g e l) ∙ q)))
 
-  pub token_fits : from < length ks → slice_index ks from ≡ k → in_range (slice_index_or vs from (pos 0)) ≡ true → TokenEnds ks vs at from k (Fits at (from + 1))
+  pub token_fits : from < length ks → slice_index ks from ≡ k → in_range (slice_index_or vs from (pos 0)) ≡ true → TokenEnds ks vs at from k (fits at (from + 1))
   token_fits l q i g sheet d e =
       let m : from < length (leaves_in g ks vs) = omega (arith, leaves_many g ks vs e) in
       fits_by_ends at (from + 1) (P.token_fits g (leaves_in g ks vs) sheet at from k d (leaf_in g ks vs from m i) m (kind_is_lem g e l ∙ q))
@@ -142,7 +144,7 @@ module _ {table rows inherited synthesized offsets ks : List ℕ} {vs : List ℤ
   abbrev Here : ℕ → ℕ → Type 0
   Here = Described gr (leaves_in gr ks vs) sheet at from (symbol_of symbol) d
 
-  pub by_token : symbol < nonterminal_base → (r : Answer) → TokenEnds ks vs at from symbol r → EndsOrNone Here r
+  pub by_token : symbol < nonterminal_base → (r : Option Ends) → TokenEnds ks vs at from symbol r → EndsOrNone Here r
   by_token l r t = subst (λ y. EndsOrNone (Described gr (leaves_in gr ks vs) sheet at from y d) r) (sym (symbol_terminal symbol l)) (t gr sheet d x.book.even)
 
   module _ (big : nonterminal_base ≤ symbol) where
@@ -155,13 +157,13 @@ module _ {table rows inherited synthesized offsets ks : List ℕ} {vs : List ℤ
     low : from ≤ length (leaves_in gr ks vs)
     low = omega (arith, many x.book, x.low)
 
-    none_here : None (Described gr (leaves_in gr ks vs) sheet at from (nonterminal m) d) → EndsOrNone Here Wrong
+    none_here : None (Described gr (leaves_in gr ks vs) sheet at from (nonterminal m) d) → EndsOrNone Here Std.None
     none_here h = wrong_by_none (subst (λ y. None (Described gr (leaves_in gr ks vs) sheet at from y d)) (sym (symbol_nonterminal symbol big)) h)
 
-    pub flat : d ≡ 0 → EndsOrNone Here Wrong
+    pub flat : d ≡ 0 → EndsOrNone Here Std.None
     flat z = none_here (P.node_flat gr x.book.productions.rows_of.sound ks vs (few x.book) sheet x.book.is_bytes at from m d low z)
 
-    pub unfit : (r : Head) → HeadOrNone rows inherited synthesized sheet at from m r → r ≡ Unfit → EndsOrNone Here Wrong
+    pub unfit : (r : Option Head) → HeadOrNone rows inherited synthesized sheet at from m r → r ≡ Std.None → EndsOrNone Here Std.None
     unfit r t e = none_here (P.node_unfit gr x.book.productions.rows_of.sound ks vs (few x.book) sheet x.book.is_bytes at from m d low (λ h. head_none rows inherited synthesized sheet at from m r t e (heads_of x.book at from m known_m h)))
 
     module _ (p behind covered : ℕ) (is : HeadIs rows inherited synthesized sheet at from m p behind covered) where
@@ -174,16 +176,16 @@ module _ {table rows inherited synthesized offsets ks : List ℕ} {vs : List ℤ
       behind_is : behind ≡ at + 12 + 8 * att gr (nonterminal m)
       behind_is = is.next ∙ ap (λ n. at + 12 + 8 * n) (counts_are x.book m known_m)
 
-      module _ (old new : List ℕ) (a : Answer) (below : ChildrenEnds table rows inherited synthesized offsets ks vs sheet p behind from (d - 1) old new a) where
+      module _ (old new : List ℕ) (a : Option Ends) (below : ChildrenEnds table rows inherited synthesized offsets ks vs sheet p behind from (d - 1) old new a) where
         -- the same with the record's own numbers
         ends_there : EndsAndMarks gr ks vs sheet (word_at sheet at) (at + 12 + 8 * att gr (nonterminal m)) from (d - 1) old new a
         ends_there = subst (λ q. EndsAndMarks gr ks vs sheet q (at + 12 + 8 * att gr (nonterminal m)) from (d - 1) old new a) is.production (subst (λ q. EndsAndMarks gr ks vs sheet p q from (d - 1) old new a) behind_is (below ready))
 
-        pub wrong : a ≡ Wrong → EndsOrNone Here Wrong
+        pub wrong : a ≡ Std.None → EndsOrNone Here Std.None
         unfolding EndsAndMarks
         wrong e = none_here (P.node_wrong gr x.book.productions.rows_of.sound ks vs (few x.book) sheet x.book.is_bytes at from m d low (subst (λ z. EndsAndMarks gr ks vs sheet (word_at sheet at) (at + 12 + 8 * att gr (nonterminal m)) from (d - 1) old new z) e ends_there))
 
-        module _ (n e : ℕ) (fits : a ≡ Fits n e) where
+        module _ (n e : ℕ) (ended : a ≡ fits n e) where
           abbrev Got : Type 0
           Got =
               Only (DescribedAll gr (leaves_in gr ks vs) sheet (at + 12 + 8 * att gr (nonterminal m)) from (production_at gr (word_at sheet at)).right (d - 1)) n e
@@ -193,7 +195,7 @@ module _ {table rows inherited synthesized offsets ks : List ℕ} {vs : List ℤ
 
           got : Got
           unfolding EndsAndMarks
-          got = subst (λ z. EndsAndMarks gr ks vs sheet (word_at sheet at) (at + 12 + 8 * att gr (nonterminal m)) from (d - 1) old new z) fits ends_there
+          got = subst (λ z. EndsAndMarks gr ks vs sheet (word_at sheet at) (at + 12 + 8 * att gr (nonterminal m)) from (d - 1) old new z) ended ends_there
 
           pub thirteen : length new ≡ positions_limit
           thirteen = got.3
@@ -201,7 +203,7 @@ module _ {table rows inherited synthesized offsets ks : List ℕ} {vs : List ℤ
           pub from_end : from ≤ e
           from_end = let s = got.0.0.stands.tokens_end in omega (arith, s)
 
-          uncovered : (e - from ≢ covered) → EndsOrNone Here Wrong
+          uncovered : (e - from ≢ covered) → EndsOrNone Here Std.None
           uncovered f = none_here (P.node_uncovered gr x.book.productions.rows_of.sound ks vs (few x.book) sheet x.book.is_bytes at from m d low n e got.0 (λ q. f (q ∙ sym is.covers)))
 
           module _ (first : get_or old 0 0 ≡ at) where
@@ -211,20 +213,20 @@ module _ {table rows inherited synthesized offsets ks : List ℕ} {vs : List ℤ
             truth : h ≡ all_true (read_at sheet vs new) (production_at gr (word_at sheet at)).rules (production_at gr (word_at sheet at)).conditions
             truth = subst (λ q. h ≡ all_true (read_at sheet vs new) (production_at gr q).rules (production_at gr q).conditions) is.production refl
 
-            unheld : h ≡ false → EndsOrNone Here Wrong
+            unheld : h ≡ false → EndsOrNone Here Std.None
             unheld f = none_here (P.node_false gr x.book.productions.rows_of.sound ks vs (few x.book) sheet x.book.is_bytes at from m d low n e got.0 here new (got.2 ∙ first) got.1 (sym truth ∙ f))
 
-            fitting : 0 < d → e - from ≡ covered → h ≡ true → EndsOrNone Here (Fits n e)
+            fitting : 0 < d → e - from ≡ covered → h ≡ true → EndsOrNone Here (fits n e)
             fitting deep c f =
                 fits_by_ends n e
                 (subst (λ y. Only (Described gr (leaves_in gr ks vs) sheet at from y d) n e) (sym (symbol_nonterminal symbol big))
                 (P.node_fits gr x.book.productions.rows_of.sound ks vs (few x.book) sheet x.book.is_bytes at from m d low n e got.0 here new (got.2 ∙ first) got.1 deep (c ∙ is.covers) (sym truth ∙ f)))
 
             -- by the tokens covered and by whether the rules and conditions hold
-            pub closes : 0 < d → EndsOrNone Here (cond (e - from == covered) (cond h (Fits n e) Wrong) Wrong)
+            pub closes : 0 < d → EndsOrNone Here (cond (e - from == covered) (cond h (fits n e) Std.None) Std.None)
             closes deep = go (e - from == covered) h refl refl
               where
-                go : (b c : Bool) → (e - from == covered) ≡ b → h ≡ c → EndsOrNone Here (cond b (cond c (Fits n e) Wrong) Wrong)
+                go : (b c : Bool) → (e - from == covered) ≡ b → h ≡ c → EndsOrNone Here (cond b (cond c (fits n e) Std.None) Std.None)
                 go true true z f = fitting deep (eqb-true (e - from) covered z) f
                 go true false z f = unheld f
                 go false c z f = uncovered (eqb-false (e - from) covered z)
@@ -249,27 +251,27 @@ module _ {table rows inherited synthesized offsets ks : List ℕ} {vs : List ℤ
         row = omega (arith, l, x.book.productions.rows_of.counted);
       }
 
-  module _ (old new : List ℕ) (a : Answer) (below : ChildrenEnds table rows inherited synthesized offsets ks vs sheet node.production node.behind node.from node.depth old new a) where
+  module _ (old new : List ℕ) (a : Option Ends) (below : ChildrenEnds table rows inherited synthesized offsets ks vs sheet node.production node.behind node.from node.depth old new a) where
     -- the same with the tree's numbers
     below_there : ChildrenEnds table rows inherited synthesized offsets ks vs sheet node.production node.behind tree.from (tree.depth - 1) old new a
     below_there = subst₂ (λ f d. ChildrenEnds table rows inherited synthesized offsets ks vs sheet node.production node.behind f d old new a) i.from i.less below
 
-    pub node_wrong : a ≡ Wrong → EndsOrNone (Here x tree.at tree.depth) Wrong
+    pub node_wrong : a ≡ Std.None → EndsOrNone (Here x tree.at tree.depth) Std.None
     node_wrong = wrong x tree.at tree.depth i.big node.production node.behind node.covered i.is old new a below_there
 
-    module _ (n e : ℕ) (fits : a ≡ Fits n e) where
+    module _ (n e : ℕ) (ended : a ≡ fits n e) where
       pub node_thirteen : length new ≡ positions_limit
-      node_thirteen = thirteen x tree.at tree.depth i.big node.production node.behind node.covered i.is old new a below_there n e fits
+      node_thirteen = thirteen x tree.at tree.depth i.big node.production node.behind node.covered i.is old new a below_there n e ended
 
       pub node_from : node.from ≤ e
-      node_from = omega (arith, from_end x tree.at tree.depth i.big node.production node.behind node.covered i.is old new a below_there n e fits, i.from)
+      node_from = omega (arith, from_end x tree.at tree.depth i.big node.production node.behind node.covered i.is old new a below_there n e ended, i.from)
 
-      pub node_closed : get_or old 0 0 ≡ tree.at → (r : Answer) → ((y : Listed (fields_of table rows offsets node.production)) → r ≡ closing (listed_true (read_at sheet vs new) y) node n e) → EndsOrNone (Here x tree.at tree.depth) r
+      pub node_closed : get_or old 0 0 ≡ tree.at → (r : Option Ends) → ((y : Listed (fields_of table rows offsets node.production)) → r ≡ closing (listed_true (read_at sheet vs new) y) node (record { next = n; end = e })) → EndsOrNone (Here x tree.at tree.depth) r
       node_closed first r c =
           let y = listed_at x.book node.production own.listed in
-          let is : r ≡ cond (e - tree.from == node.covered) (cond (listed_true (read_at sheet vs new) y) (Fits n e) Wrong) Wrong = c y ∙ ap (λ f. cond (e - f == node.covered) (cond (listed_true (read_at sheet vs new) y) (Fits n e) Wrong) Wrong) i.from in
+          let is : r ≡ cond (e - tree.from == node.covered) (cond (listed_true (read_at sheet vs new) y) (fits n e) Std.None) Std.None = c y ∙ ap (λ f. cond (e - f == node.covered) (cond (listed_true (read_at sheet vs new) y) (fits n e) Std.None) Std.None) i.from in
           subst (EndsOrNone (Here x tree.at tree.depth)) (sym is)
-          (closes x tree.at tree.depth i.big node.production node.behind node.covered i.is old new a below_there n e fits first i.deep)
+          (closes x tree.at tree.depth i.big node.production node.behind node.covered i.is old new a below_there n e ended first i.deep)
 
 -- ---- children
 
@@ -309,15 +311,15 @@ module _ {table rows inherited synthesized offsets ks : List ℕ} {vs : List ℤ
         low = end_inside x;
       }
 
-      module _ (r : Answer) (t : NodeEnds table rows inherited synthesized offsets ks vs sheet next end symbol d r) where
+      module _ (r : Option Ends) (t : NodeEnds table rows inherited synthesized offsets ks vs sheet next end symbol d r) where
         node_ends : (x : ChildrenReady table rows inherited synthesized offsets ks vs sheet p from) → EndsOrNone (Described (grammar_in table) (leaves_in (grammar_in table) ks vs) sheet next end (slice_index_or (production_at (grammar_in table) p).right k (terminal 0)) d) r
         node_ends x = subst (λ y. EndsOrNone (Described (grammar_in table) (leaves_in (grammar_in table) ks vs) sheet next end y d) r) (at_hand x) (t (node_ready x))
 
-        pub passed_wrong : (new : List ℕ) → r ≡ Wrong → ChildrenEnds table rows inherited synthesized offsets ks vs sheet p at from d marks₀ new Wrong
+        pub passed_wrong : (new : List ℕ) → r ≡ Std.None → ChildrenEnds table rows inherited synthesized offsets ks vs sheet p at from d marks₀ new Std.None
         unfolding EndsAndMarks
         passed_wrong new w x = P.upto_wrong (grammar_in table) x.book.productions.rows_of.sound ks vs (few x.book) sheet at from (production_at (grammar_in table) p).right d k next end marks (s.upto x) (omega (arith, size_is x)) (none_of_wrong _ r (node_ends x) w)
 
-        pub passed_more : (n₁ e₁ : ℕ) → r ≡ Fits n₁ e₁ → k + 1 < positions_limit → (mark : ℕ) → mark ≡ mark_of (length sheet) (symbol_of symbol) next end → ChildrenPassed table rows inherited synthesized offsets ks vs sheet p at from d marks₀ (k + 1) n₁ e₁ (slice_set marks (k + 1) mark)
+        pub passed_more : (n₁ e₁ : ℕ) → r ≡ fits n₁ e₁ → k + 1 < positions_limit → (mark : ℕ) → mark ≡ mark_of (length sheet) (symbol_of symbol) next end → ChildrenPassed table rows inherited synthesized offsets ks vs sheet p at from d marks₀ (k + 1) n₁ e₁ (slice_set marks (k + 1) mark)
         passed_more n₁ e₁ w short mark em = record {
           long = length-set marks (k + 1) mark ∙ s.long;
           own = get_or-set_other marks (k + 1) 0 mark 0 (λ q. omega arith) ∙ s.own;
@@ -331,7 +333,7 @@ module _ {table rows inherited synthesized offsets ks : List ℕ} {vs : List ℤ
                 let one : suc k ≡ k + 1 = omega arith in
                 ap (λ i. slice_index (slice_set marks (k + 1) mark) i) one ∙ (get_or-set_same marks (k + 1) mark 0 (omega (arith, s.long)) ∙ (em ∙ ap (λ y. mark_of (length sheet) y next end) (at_hand x)))
 
-    pub passed_end : size_at rows p ≡ k → ChildrenEnds table rows inherited synthesized offsets ks vs sheet p at from d marks₀ marks (Fits next end)
+    pub passed_end : size_at rows p ≡ k → ChildrenEnds table rows inherited synthesized offsets ks vs sheet p at from d marks₀ marks (fits next end)
     unfolding EndsAndMarks
     passed_end l x =
         let e : k ≡ length (production_at (grammar_in table) p).right = sym l ∙ size_is x in (

@@ -3,8 +3,8 @@ use Rattle.std.proofs.Common.{length, ◌≡◌}
 use Rattle.listing_text.specs.Cursors.{lines_left}
 use Rattle.listing.proofs.print_rest.Given as goal
 
-abbrev pub invariant-loop-next : goal.invariant-loop-next
-invariant-loop-next g l = length l.out ≡ length l.initial.out
+abbrev pub invariant-loop-c : goal.invariant-loop-c
+invariant-loop-c g l = length l.out ≡ length l.initial.out
 
-abbrev pub decreases-loop-next : goal.decreases-loop-next
-decreases-loop-next g l = length (lines_left l.program l.c)
+abbrev pub decreases-loop-c : goal.decreases-loop-c
+decreases-loop-c g l = length (lines_left l.program l.c)

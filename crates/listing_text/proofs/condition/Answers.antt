@@ -1,7 +1,6 @@
 use Rattle.listing_lines.specs.Line.{condition_line}
 use Rattle.listing_bytes.specs.Written.{wrote_as}
 use Rattle.theory_program.specs.Unpacked.{condition_from}
-use mathlib.Core.Path.{refl}
 use Rattle.listing_text.proofs.condition.Goals as goal
 
 pub returns : goal.returns
@@ -14,6 +13,5 @@ returns c =
     record {
       text = wrote_as (λ i. condition_line a.production a.passed (condition_from (first i) (second i) (third i))) line.0;
       short = line.1;
-      some = refl;
       next = c.go_on-next.ensures;
     }

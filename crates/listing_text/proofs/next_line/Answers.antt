@@ -1,4 +1,4 @@
-use Rattle.std.proofs.Common.{arith, ◌+◌, refl, sym, ap, ◌∙◌}
+use Rattle.std.proofs.Common.{arith, ◌+◌, sym, ap, ◌∙◌}
 use Rattle.listing_text.specs.LineOut.{emits_as, step_stop, step_rule, step_condition, step_add, step_remove, over_at_stop, line_at_step}
 use Rattle.listing_text.specs.Tests.{inside_facts}
 use Rattle.listing_lines.specs.Line.{add_line, remove_line}
@@ -12,31 +12,31 @@ returns-then-not-is_inside c =
     let s = c.settle-c in
     let d = s.result in
     let outside = sym c.is_inside.ensures.0 ∙ c.if-not-is_inside.true in
-    (omega arith, over_at_stop ws a.cursor d s.ensures.1 a.out.now _ (step_stop ws d s.ensures.0 outside) refl)
+    (tt, over_at_stop ws a.cursor d s.ensures.1 a.out.now (step_stop ws d s.ensures.0 outside))
 
 pub rule-requires : goal.rule-requires
 rule-requires c =
     let i = inside_facts c.args.program.now c.settle-c.result (sym c.is_inside.ensures.0 ∙ c.if-not-is_inside.false) in
     (i.1, omega arith, omega arith)
 
-pub returns-then-c : goal.returns-then-c
-returns-then-c c =
+pub returns-in-Rules : goal.returns-in-Rules
+returns-in-Rules c =
     let a = c.args in
     let s = c.settle-c in
     let inside = sym c.is_inside.ensures.0 ∙ c.if-not-is_inside.false in
-    line_at_step a.program.now a.cursor s.result s.ensures.1 (omega arith) (step_rule a.program.now s.result s.ensures.0 inside (omega arith) c.if-c.true) c.rule.ensures
+    line_at_step a.program.now a.cursor s.result s.ensures.1 (omega arith) (step_rule a.program.now s.result s.ensures.0 inside (omega arith) c.in-Rules.is) c.rule.ensures
 
 pub condition-requires : goal.condition-requires
 condition-requires c =
     let i = inside_facts c.args.program.now c.settle-c.result (sym c.is_inside.ensures.0 ∙ c.if-not-is_inside.false) in
     (i.1, omega arith, omega arith)
 
-pub returns-then-c-gt0 : goal.returns-then-c-gt0
-returns-then-c-gt0 c =
+pub returns-in-Conditions : goal.returns-in-Conditions
+returns-in-Conditions c =
     let a = c.args in
     let s = c.settle-c in
     let inside = sym c.is_inside.ensures.0 ∙ c.if-not-is_inside.false in
-    line_at_step a.program.now a.cursor s.result s.ensures.1 (omega arith) (step_condition a.program.now s.result s.ensures.0 inside (omega arith) c.if-c.false) c.condition.ensures
+    line_at_step a.program.now a.cursor s.result s.ensures.1 (omega arith) (step_condition a.program.now s.result s.ensures.0 inside (omega arith) c.in-Conditions.is) c.condition.ensures
 
 pub add-requires : goal.add-requires
 add-requires c =

@@ -1,12 +1,15 @@
-use native.Mathlib.Omega.{arith}
+use Rattle.std.proofs.Common.{Bool, true, false, ◌≡◌, refl, ◌∙◌}
+use mir.Val.{bool_byte}
+use Rattle.meaning.specs.Grammar.{attribute_if}
 use Rattle.outline.specs.Counts.{synthesized_terminal, synthesized_nonterminal}
 use Rattle.outline.proofs.synthesized_of.Goals as goal
 
-pub returns-then-symbol-ge128 : goal.returns-then-symbol-ge128
-returns-then-symbol-ge128 c = synthesized_nonterminal _ _ _ _ (omega arith) c.count_of.ensures
+counted : (b : Bool) → bool_byte b ≡ attribute_if b
+counted true = refl
+counted false = refl
 
-pub returns-then-has : goal.returns-then-has
-returns-then-has c = synthesized_terminal _ _ _ (omega arith) c.has.ensures c.if-has.true
+pub returns-then-symbol-lt128 : goal.returns-then-symbol-lt128
+returns-then-symbol-lt128 c = c.from.ensures ∙ (counted c.has.result ∙ synthesized_terminal _ _ _ c.if-symbol-lt128.true c.has.ensures refl)
 
-pub returns : goal.returns
-returns c = synthesized_terminal _ _ _ (omega arith) c.has.ensures c.if-has.false
+pub returns-else-symbol-lt128 : goal.returns-else-symbol-lt128
+returns-else-symbol-lt128 c = synthesized_nonterminal _ _ _ _ c.if-symbol-lt128.false c.count_of.ensures

@@ -11,15 +11,15 @@ returns-then-program-lt-AREA c =
 
 pub build-length-requires : goal.build-length-requires
 build-length-requires c =
-    let x = accepted_case _ _ _ _ _ _ _ c.judge_table.ensures _ c.in-Usable.is in
+    let x = accepted_case _ _ _ _ _ _ _ c.judge_table.ensures _ c.in-Ok.is in
     (x.outlined, c.if-program-lt-AREA.false)
 
-pub returns-in-Unusable : goal.returns-in-Unusable
-returns-in-Unusable c =
-    let z = answered _ _ _ (Refused _ _) (c.if-program-lt-AREA.false, refused_case _ _ _ _ _ _ _ c.judge_table.ensures _ _ c.in-Unusable.is, refl) in
+pub returns-in-Err : goal.returns-in-Err
+returns-in-Err c =
+    let z = answered _ _ _ (Refused _ _) (c.if-program-lt-AREA.false, rw c.number.ensures (refused_case _ _ _ _ _ _ _ c.judge_table.ensures _ c.in-Err.is), refl) in
     record { said = z.0; cases = z.1 }
 
-pub returns-in-Usable : goal.returns-in-Usable
-returns-in-Usable c =
-    let z = answered _ _ _ (Written _) (stands _ _ _ _ _ _ _ c.judge_table.ensures c.args.program.now c.if-program-lt-AREA.false _ _ _ c.in-Usable.is c.build-length.ensures) in
+pub returns-in-Ok : goal.returns-in-Ok
+returns-in-Ok c =
+    let z = answered _ _ _ (Written _) (stands _ _ _ _ _ _ _ c.judge_table.ensures c.args.program.now c.if-program-lt-AREA.false _ _ _ c.in-Ok.is c.build-length.ensures) in
     record { said = z.0; cases = z.1 }

@@ -10,7 +10,7 @@ use Rattle.meaning_preview.specs.Preview.{tidied, tried}
 use Rattle.records.specs.declared.Handed as Handed
 use Rattle.records.specs.Records.{handed_is}
 use Rattle.run_moves.specs.declared.Run.{Run}
-use Rattle.run_machine.specs.declared.Ended as Ended
+use Rattle.run_machine.specs.Advancing.{Ended}
 use Rattle.run_fit.specs.HasProgram.{HasProgram}
 use Rattle.run_states.specs.Leaving.{fed_from}
 use Rattle.run_lent.specs.Performing.{Starts, Judged, feed_made}
@@ -36,7 +36,7 @@ module _ {vs : List ℤ} {ps : List ℕ} (few : length vs ≤ registers_limit) (
       ap₂ stacks_of (c.registers ∙ (sym a ∙ ap (λ i. replicate i mark ++ drop i rs) n)) (c.places ∙ (sym b ∙ ap (λ i. replicate i 0 ++ drop i qs) k))
 
   module _ {ws : List ℕ} {r : Record} (j : Judged ws vs ps r) (run : Run) (f : Starts ws ps r run) (g : Grammar) (s : HasProgram g ws) where
-    pub tried_is : (k : ℕ) (v : ℤ) (e : Ended.Ended) → TriedAs ws k v vs ps run e → (c : Handed.Handed) → c ≡ fed_from e → (rs' : List ℤ) (qs' : List ℕ) → Cleared vs ps rs' qs'
+    pub tried_is : (k : ℕ) (v : ℤ) (e : Ended) → TriedAs ws k v vs ps run e → (c : Handed.Handed) → c ≡ fed_from e → (rs' : List ℤ) (qs' : List ℕ) → Cleared vs ps rs' qs'
         → handed_is c rs' qs' ≡ tried g r (stacks_of vs ps) (stacks_of rs qs) k v
     tried_is k v e t c q rs' qs' d =
         let made = feed_made j run f (k ∷ []) (v ∷ []) refl t.registers t.places e c t.fed q g s in

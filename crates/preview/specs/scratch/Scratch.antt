@@ -1,5 +1,5 @@
 -- Scratch cells: what stands in the caller's cells is copied to cleared ones, a token is tried there, and what the moves reached is cleared again.
-use Rattle.std.specs.Prelude.{ℕ, suc, ◌+◌, ◌-◌, ◌≤◌, ◌<◌, ◌≡◌, List, [], ◌∷◌, ◌++◌, length, get_or, set, take, drop, replicate, ℤ}
+use Rattle.std.specs.Prelude.{ℕ, suc, ◌+◌, ◌-◌, ◌≤◌, ◌<◌, ◌≡◌, List, [], ◌∷◌, ◌++◌, length, get_or, set, take, drop, replicate, ℤ, Ok, Err}
 use Rattle.std.proofs.Common.{arith, sym, ap, ◌∙◌, subst₂, append_assoc, append-nil, drop_of_length-le, take-append-drop, drop_at, drop-cons, take-suc, length-take-le}
 use Rattle.std.proofs.lemmas.List.{length-replicate, replicate-append-replicate, set_at}
 use Rattle.meaning.specs.Value.{mark}
@@ -9,9 +9,7 @@ use Rattle.run_registers.specs.Laid.{laid_inside}
 use Rattle.run_moves.specs.declared.Run.{Run}
 use Rattle.run_moves.specs.Laid.{LaidIn, laid_size}
 use Rattle.run_moves.specs.Held.{Held}
-use Rattle.run_machine.specs.declared.Ended as Ended
-use Rattle.run_machine.specs.declared.Ended.TheVariants.{Stopped, Failed}
-use Rattle.run_machine.specs.Advancing.{Running, Settles}
+use Rattle.run_machine.specs.Advancing.{Ended, Running, Settles}
 use Rattle.run_machine.specs.Feeding.{Feeds}
 
 -- as many cleared cells as vs and ps have
@@ -20,15 +18,15 @@ pub record Cleared (vs : List ℤ) (ps : List ℕ) (rs : List ℤ) (qs : List �
   pub places : qs ≡ replicate (length ps) 0
 
 -- what one token of kind k and value v leads to, from the run that vs and ps hold; the cells that it led to are cleared again
-pub record TriedAs (ws : List ℕ) (k : ℕ) (v : ℤ) (vs : List ℤ) (ps : List ℕ) (run : Run) (e : Ended.Ended) : Type 0 where
+pub record TriedAs (ws : List ℕ) (k : ℕ) (v : ℤ) (vs : List ℤ) (ps : List ℕ) (run : Run) (e : Ended) : Type 0 where
   pub registers : List ℤ
   pub places : List ℕ
   pub fed : Feeds ws (k ∷ []) (v ∷ []) vs ps run registers places e
 
 -- the run that the moves reached
-abbrev pub reached_by : Ended.Ended → Run
-reached_by (Stopped run) = run
-reached_by (Failed run k) = run
+abbrev pub reached_by : Ended → Run
+reached_by (Ok run) = run
+reached_by (Err f) = f.run
 
 -- ---- cells copied one after the other
 
@@ -102,14 +100,14 @@ module _ {ws : List ℕ} {vs : List ℤ} {ps : List ℕ} {run : Run} (r : Runnin
       pub running_copied : Running ws rs₁ qs₁ run
       running_copied = subst₂ (λ x y. Running ws x y run) (sym registers_same) (sym places_same) r
 
-      pub fed_copied : (k : ℕ) (v : ℤ) (rs₂ : List ℤ) (qs₂ : List ℕ) (e : Ended.Ended) → Feeds ws (k ∷ []) (v ∷ []) rs₁ qs₁ run rs₂ qs₂ e → Feeds ws (k ∷ []) (v ∷ []) vs ps run rs₂ qs₂ e
+      pub fed_copied : (k : ℕ) (v : ℤ) (rs₂ : List ℤ) (qs₂ : List ℕ) (e : Ended) → Feeds ws (k ∷ []) (v ∷ []) rs₁ qs₁ run rs₂ qs₂ e → Feeds ws (k ∷ []) (v ∷ []) vs ps run rs₂ qs₂ e
       fed_copied k v rs₂ qs₂ e f = subst₂ (λ x y. Feeds ws (k ∷ []) (v ∷ []) x y run rs₂ qs₂ e) registers_same places_same f
 
   -- what the moves of a token reach
-  module _ (k : ℕ) (v : ℤ) (vs' : List ℤ) (ps' : List ℕ) (e : Ended.Ended) (f : Feeds ws (k ∷ []) (v ∷ []) vs ps run vs' ps' e) where
-    settled_held : (e : Ended.Ended) → (o : Settled) → Settles r.grammar ws r.lent o vs' ps' e → (d : Config) × Held r.grammar ws r.lent vs' ps' (reached_by e) d
-    settled_held (Stopped run') o s = (s.0, s.2)
-    settled_held (Failed run' j) o s = (s.0, s.2)
+  module _ (k : ℕ) (v : ℤ) (vs' : List ℤ) (ps' : List ℕ) (e : Ended) (f : Feeds ws (k ∷ []) (v ∷ []) vs ps run vs' ps' e) where
+    settled_held : (e : Ended) → (o : Settled) → Settles r.grammar ws r.lent o vs' ps' e → (d : Config) × Held r.grammar ws r.lent vs' ps' (reached_by e) d
+    settled_held (Ok run') o s = (s.0, s.2)
+    settled_held (Err f) o s = (s.0, s.2)
 
     pub held_after : (d : Config) × Held r.grammar ws r.lent vs' ps' (reached_by e) d
     held_after = settled_held e _ (f r.grammar r.lent r.config r.held)

@@ -1,14 +1,15 @@
 -- A token that is not expected is refused by the first move that looks at it.
-use Rattle.std.specs.Prelude.{ℕ, suc, ◌+◌, ◌-◌, ◌*◌, ◌<◌, ◌≡◌, refl, Bool, true, false, not, ◌&&◌, cond, List, [], ◌++◌, length, get_or, eqb, ltb, leb, ℤ}
+use Rattle.std.specs.Prelude.{ℕ, suc, ◌+◌, ◌-◌, ◌*◌, ◌<◌, ◌≡◌, refl, Bool, true, false, ◌&&◌, cond, List, [], ◌++◌, length, get_or, eqb, ltb, leb, ℤ}
 use Rattle.std.proofs.Common.{arith, sym, ap, ◌∙◌, true≢false, ne_eqb, eqb-true, ltb-true, ltb-false, le-ltb}
 use Rattle.std.proofs.Math.Bool.{and-false}
 use Rattle.std.proofs.lemmas.Bool.{eqb-false, not-false}
 use Rattle.meaning.specs.Program.{read_operation, predict_operation, nothing_operation}
 use Rattle.meaning.specs.Sets.{end_number}
 use Rattle.meaning.specs.Grammar.{Grammar, Leaf, leaf_of}
-use Rattle.meaning.specs.Machine.{Config, Lent, comes, moved, blocked, next, waits, is_done, Settled, stopped, failed, advance_from, feed_all, moves_limit, tokens_limit}
+use Rattle.meaning.specs.Machine.{Config, Lent, comes, moved, blocked, unexpected, next, waits, is_done, Settled, stopped, failed, advance_from, feed_all, moves_limit, tokens_limit}
 use Rattle.theory_base.specs.Steps.{advance_failed}
 use Rattle.theory_program.specs.Parts.{head_operation, head_operand}
+use Rattle.refusals.specs.declared.Refusal.TheVariants.{UnexpectedToken}
 use Rattle.run_moves.specs.declared.Run.{Run}
 use Rattle.run_moves.specs.Held.{Held, bounds, hand_terminal, next_is}
 use Rattle.run_moves.specs.Moves.{after}
@@ -44,7 +45,9 @@ module _ {g : Grammar} {ws : List ℕ} {lent : Lent} {m : List ℤ} {ps : List �
         (21, next_is h (comes leaf) x limit ∙ ap (λ b. cond b taken (blocked 21)) (ne_eqb operand u z))
 
     no_alternative : u < end_number → number ≡ predict_operation → get_or ws (9 + 64 * operand + u) 0 ≡ 0 → Refuses
-    no_alternative l o z = (_, (blocked_unexpected h o u (omega arith) (comes leaf) (sym (ap (λ b. look_if b u) (ne_eqb u end_number (λ e. omega arith)))) limit (first_zero h o u (omega arith) z)).0)
+    no_alternative l o z =
+        let token : eqb u end_number ≡ false = ne_eqb u end_number (λ e. omega arith) in
+        (21, (blocked_unexpected h o u (omega arith) (comes leaf) (sym (ap (λ b. look_if b u) token)) limit (first_zero h o u (omega arith) z) UnexpectedToken (sym (ap (λ b. unexpected (look_if b u)) token))).0)
 
   -- its first move is refused: the terminal is another, no alternative holds it, nothing is left; or no move is
   refuses : u < end_number → expected_at ws run.at u ≡ false → Refuses

@@ -1,5 +1,5 @@
 use mathlib.Core.Path.{◌≡◌}
-use Prim.Native.Nat.{ℕ, ◌≤◌, ◌-◌, ◌*◌}
+use Prim.Native.Nat.{ℕ, ◌≤◌, ◌*◌}
 use mathlib.Core.List.{List}
 use lib.ListN.{length}
 use Rattle.meaning.specs.Limits.{positions_limit}
@@ -10,8 +10,5 @@ use Rattle.program_body_levels.proofs.find_levels.Given as goal
 
 abbrev pub invariant-loop-k : goal.invariant-loop-k
 invariant-loop-k l =
-    (l.k ≤ l.size) × (l.sum ≤ 256 * l.k) × (length l.levels ≡ positions_limit)
+    (l.sum ≤ 256 * l.k) × (length l.levels ≡ positions_limit)
     × ((fs : List ℕ) (x : OfProduction l.row fs l.inherited l.synthesized) (y : Carried l.carrying.0 x.grammar) → L.LevelsGo x l.carrying.0 y l.k l.sum l.levels) × ((fs : List ℕ) → W.RowGo l.row fs l.inherited l.synthesized l.carrying.0 l.initial.area l.wait l.k l.sum l.area)
-
-abbrev pub decreases-loop-k : goal.decreases-loop-k
-decreases-loop-k l = l.size - l.k

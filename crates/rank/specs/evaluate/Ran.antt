@@ -1,5 +1,5 @@
 -- What a candidate's run answers and leaves.
-use Rattle.std.specs.Prelude.{ℕ, ◌-◌, ◌≤◌, ◌<◌, min, ◌≡◌, refl, Bool, true, List, ◌++◌, T, length, get_or, set, take, drop, replicate, ℤ}
+use Rattle.std.specs.Prelude.{ℕ, ◌-◌, ◌≤◌, ◌<◌, min, ◌≡◌, refl, Bool, true, List, ◌++◌, T, length, get_or, set, take, drop, replicate, ℤ, Ok, Err}
 use Rattle.std.proofs.Common.{arith, sym, ap, ap₂, ◌∙◌, subst, subst₂, append-nil, length-append, length-drop, length-set, drop_of_length-le, take_at}
 use Rattle.std.proofs.lemmas.List.{length-replicate}
 use Rattle.meaning.specs.Limits.{registers_limit, places_limit}
@@ -19,9 +19,9 @@ use Rattle.run_registers.specs.Laid.{laid_inside}
 use Rattle.run_moves.specs.declared.Run.{Run}
 use Rattle.run_moves.specs.Laid.{LaidIn, laid_size}
 use Rattle.run_moves.specs.Held.{Held}
-use Rattle.run_machine.specs.declared.Ended as Ended
-use Rattle.run_machine.specs.declared.Ended.TheVariants.{Stopped, Failed}
-use Rattle.run_machine.specs.Advancing.{Settles, Running}
+use Rattle.refusals.specs.Numbers.{refusal_number}
+use Rattle.run_machine.specs.declared.Failed.{Failed}
+use Rattle.run_machine.specs.Advancing.{Ended, Settles, Running}
 use Rattle.run_machine.specs.Feeding.{Feeds, Finishes}
 use Rattle.run_fit.specs.HasProgram.{HasProgram, Readable}
 use Rattle.run_cells.specs.Cutting.{uncut, lent_same, put_back, fed_cut, finished_cut}
@@ -76,7 +76,7 @@ module _ {ws : List ℕ} {vs : List ℤ} {ps : List ℕ} (b : Readable ws) (o : 
   pub start_running : Running ws vs ps (start_run count)
   start_running = record { grammar = b.grammar; lent = lent_of (stacks_of vs ps); config = opening b.grammar; held = held_opened b.grammar ws b.shown vs ps o count e }
 
-  module _ (ks : List ℕ) (us : List ℤ) (vs₁ : List ℤ) (ps₁ : List ℕ) (x : Ended.Ended) (f : Feeds ws ks us vs ps (start_run count) vs₁ ps₁ x) where
+  module _ (ks : List ℕ) (us : List ℤ) (vs₁ : List ℤ) (ps₁ : List ℕ) (x : Ended) (f : Feeds ws ks us vs ps (start_run count) vs₁ ps₁ x) where
     settled : (g : Grammar) → HasProgram g ws → Settles g ws (lent_of (stacks_of vs ps)) (feed_all g (lent_of (stacks_of vs ps)) (leaves g (tokens_from ks us)) (opening g)) vs₁ ps₁ x
     settled g s = f g (lent_of (stacks_of vs ps)) (opening g) (held_opened g ws s vs ps o count e)
 
@@ -87,45 +87,45 @@ module _ {ws : List ℕ} {vs : List ℤ} {ps : List ℕ} (b : Readable ws) (o : 
     one g = omega (arith, o.some, o.little)
 
     -- a token is refused
-    pub failed_ran : (run : Run) (j : ℕ) (r : Handed) → x ≡ Failed run j → r ≡ fed_from (Failed run j) → Ran ws ks us vs ps vs₁ ps₁ r
-    failed_ran run j r q d =
-        let at : (g : Grammar) (s : HasProgram g ws) → Settles g ws (lent_of (stacks_of vs ps)) (feed_all g (lent_of (stacks_of vs ps)) (leaves g (tokens_from ks us)) (opening g)) vs₁ ps₁ (Failed run j) =
+    pub failed_ran : (w : Failed) (r : Handed) → x ≡ Err w → r ≡ fed_from (Err w) → Ran ws ks us vs ps vs₁ ps₁ r
+    failed_ran w r q d =
+        let at : (g : Grammar) (s : HasProgram g ws) → Settles g ws (lent_of (stacks_of vs ps)) (feed_all g (lent_of (stacks_of vs ps)) (leaves g (tokens_from ks us)) (opening g)) vs₁ ps₁ (Err w) =
         λ g s. subst (Settles g ws (lent_of (stacks_of vs ps)) (feed_all g (lent_of (stacks_of vs ps)) (leaves g (tokens_from ks us)) (opening g)) vs₁ ps₁) q (settled g s) in
         record {
           through = λ g s.
               let z = at g s in
-              let k : handed_is r vs₁ ps₁ ≡ after_feed g (stacks_of vs ps) (failed z.0 j) = ap (λ c. handed_is c vs₁ ps₁) d ∙ (feed_leaves_lem g ws vs ps o.few o.little vs₁ ps₁ (Failed run j) (failed z.0 j) (z.0, refl, z.2)) in
-              subst (λ y. Goes g (stacks_of vs ps) ks us (outcome_of y)) (sym k) (failing (enough g s) (one g) z.0 j z.1);
+              let k : handed_is r vs₁ ps₁ ≡ after_feed g (stacks_of vs ps) (failed z.0 (refusal_number w.refusal)) = ap (λ c. handed_is c vs₁ ps₁) d ∙ (feed_leaves_lem g ws vs ps o.few o.little vs₁ ps₁ (Err w) (failed z.0 (refusal_number w.refusal)) (z.0, refl, z.2)) in
+              subst (λ y. Goes g (stacks_of vs ps) ks us (outcome_of y)) (sym k) (failing (enough g s) (one g) z.0 (refusal_number w.refusal) z.1);
           clean = subst (λ c. Clean vs₁ ps₁ c.state.registers c.state.places) (sym d) (held_clean (at b.grammar b.shown).2);
           ranged = subst (λ c. T (answer_ranged (answer_is c.answer))) (sym d) tt;
         }
 
     -- all tokens are read
-    module _ (next : Run) (q : x ≡ Stopped next) where
-      stopped_at : (g : Grammar) → HasProgram g ws → Settles g ws (lent_of (stacks_of vs ps)) (feed_all g (lent_of (stacks_of vs ps)) (leaves g (tokens_from ks us)) (opening g)) vs₁ ps₁ (Stopped next)
+    module _ (next : Run) (q : x ≡ Ok next) where
+      stopped_at : (g : Grammar) → HasProgram g ws → Settles g ws (lent_of (stacks_of vs ps)) (feed_all g (lent_of (stacks_of vs ps)) (leaves g (tokens_from ks us)) (opening g)) vs₁ ps₁ (Ok next)
       stopped_at g s = subst (Settles g ws (lent_of (stacks_of vs ps)) (feed_all g (lent_of (stacks_of vs ps)) (leaves g (tokens_from ks us)) (opening g)) vs₁ ps₁) q (settled g s)
 
       pub next_running : Running ws vs₁ ps₁ next
       next_running = let z = stopped_at b.grammar b.shown in record { grammar = b.grammar; lent = lent_of (stacks_of vs ps); config = z.0; held = z.2 }
 
-      module _ (vs₂ : List ℤ) (ps₂ : List ℕ) (y : Ended.Ended) (h : Finishes ws vs₁ ps₁ next vs₂ ps₂ y) where
+      module _ (vs₂ : List ℤ) (ps₂ : List ℕ) (y : Ended) (h : Finishes ws vs₁ ps₁ next vs₂ ps₂ y) where
         finish_settled : (g : Grammar) (s : HasProgram g ws) → Settles g ws (lent_of (stacks_of vs ps)) (finish_all g (lent_of (stacks_of vs ps)) (stopped_at g s).0) vs₂ ps₂ y
         finish_settled g s = h g (lent_of (stacks_of vs ps)) (stopped_at g s).0 (stopped_at g s).2
 
         pub next_ending : Ending ws vs₂ y
         next_ending = let z = stopped_at b.grammar b.shown in ended_by b.grammar ws vs ps o.few o.little z.0 z.2.few_moves b.shown.begins vs₂ ps₂ y (finish_settled b.grammar b.shown)
 
-        heights : (w : Ended.Ended) → Settles b.grammar ws (lent_of (stacks_of vs ps)) (finish_all b.grammar (lent_of (stacks_of vs ps)) (stopped_at b.grammar b.shown).0) vs₂ ps₂ w
+        heights : (w : Ended) → Settles b.grammar ws (lent_of (stacks_of vs ps)) (finish_all b.grammar (lent_of (stacks_of vs ps)) (stopped_at b.grammar b.shown).0) vs₂ ps₂ w
             → Clean vs₂ ps₂ (finished_from (get_or ws 5 0) vs₂ w).state.registers (finished_from (get_or ws 5 0) vs₂ w).state.places
-        heights (Stopped run) z = held_clean z.2
-        heights (Failed run j) z = held_clean z.2
+        heights (Ok run) z = held_clean z.2
+        heights (Err f) z = held_clean z.2
 
-        ends_ranged : (w : Ended.Ended) → Settles b.grammar ws (lent_of (stacks_of vs ps)) (finish_all b.grammar (lent_of (stacks_of vs ps)) (stopped_at b.grammar b.shown).0) vs₂ ps₂ w
+        ends_ranged : (w : Ended) → Settles b.grammar ws (lent_of (stacks_of vs ps)) (finish_all b.grammar (lent_of (stacks_of vs ps)) (stopped_at b.grammar b.shown).0) vs₂ ps₂ w
             → T (answer_ranged (after_finish_value b.grammar (stacks_of vs ps) (finish_all b.grammar (lent_of (stacks_of vs ps)) (stopped_at b.grammar b.shown).0)).answer)
-        ends_ranged (Stopped run) z =
+        ends_ranged (Ok run) z =
             let c = stopped_at b.grammar b.shown in
             subst (λ o. T (answer_ranged (after_finish_value b.grammar (stacks_of vs ps) o).answer)) (sym z.1) (result_ranged b.grammar b.shown.formed z.0 z.2.shaped (is_finished_lem b.grammar ws vs ps o.few o.little c.0 c.2.few_moves z.0 z.1))
-        ends_ranged (Failed run j) z = subst (λ o. T (answer_ranged (after_finish_value b.grammar (stacks_of vs ps) o).answer)) (sym z.1) tt
+        ends_ranged (Err f) z = subst (λ o. T (answer_ranged (after_finish_value b.grammar (stacks_of vs ps) o).answer)) (sym z.1) tt
 
         pub finished_ran : (r : Handed) → r ≡ finished_from (get_or ws 5 0) vs₂ y → Ran ws ks us vs ps vs₂ ps₂ r
         finished_ran r d =

@@ -3,11 +3,15 @@ use native.Mathlib.Omega.{arith}
 use mathlib.Core.Path.{◌≡◌, sym, ap, ◌∙◌}
 use borrow.Author.Rules.{rules}
 use lib.Dec.{eqb}
-use lib.ListN.{get_or, drop}
+use Prim.Native.Nat.{ℕ, ◌<◌, ◌≤◌}
+use mathlib.Core.List.{List}
+use Rattle.std.specs.List.{prefix_len}
+use Rattle.std.proofs.lemmas.List.Sums.{prefix_len-le-length}
+use lib.ListN.{length, get_or, take, drop, length-take}
 use Rattle.meaning.specs.Grammar.{Grammar, nonterminal, nonterminal_base}
 use Rattle.theory_program.specs.Parts.{head_operand, wait_left, wait_symbol}
 use Rattle.run_fit.specs.HasProgram.{HasProgram, wait_at, header_inside}
-use Rattle.run_fit.proofs.Places.{stands, follow, follow_start, follow_not, follow_turn, follow_alike, alike_from, follow_past, follow_none, follow_end}
+use Rattle.run_fit.proofs.Places.{stands, follow, follow_start, follow_not, follow_turn, follow_alike, alike_from, follow_past, follow_end}
 use Rattle.run_fit.proofs.stand_above.Goals.{After-past_place-reached, After-wait_word-next, Else-place-below}
 use Rattle.run_fit.proofs.stand_above.Goals as goal
 
@@ -97,48 +101,45 @@ returns-then-not-stands_on-2 c =
     let off = ap (λ v. eqb (nonterminal_base + wait_left v) (wait_symbol l.word)) (sym e) ∙ (sym c.stands_on-else-place-below.ensures ∙ c.if-not-stands_on-2.true) in
     λ g h. sym (l.invariant.2 g h ∙ follow_not h a.registers.now a.places.now l.i l.reached l.word k.loop-i-test.true off)
 
-pub overflow_sub-end : goal.overflow_sub-end
-overflow_sub-end c = omega (arith, c.alike-end.ensures.0)
-
 pub past_alike-reached-requires : goal.past_alike-reached-requires
 past_alike-reached-requires c = c.loop-i.invariant.0
 
-pub loop-i-smaller : goal.loop-i-smaller
-loop-i-smaller c = omega (arith, c.alike-end.ensures.0)
-
-pub loop-i-preserved : goal.loop-i-preserved
-loop-i-preserved c =
-    let r = c.alike-end in
-    let t = c.before.before.before in
-    let k = t.before.before in
-    let m = k.before.before.before in
-    let l = m.loop-i in
-    let a = m.args in
-    let p = k.word_at-place in
-    let on = sym t.stands_on-else-place-below.ensures ∙ t.if-not-stands_on-2.false in
-    let run = alike_from a.places.now l.i p.result r.result k.loop-i-test.true (sym p.ensures.0) r.ensures.0 r.ensures.1 in (
-      c.past_alike-reached.ensures.inside,
-      l.invariant.1,
-      λ g h. l.invariant.2 g h
-          ∙ (ap (λ z. follow g l.word z a.registers.now l.reached) run
-          ∙ follow_alike h a.registers.now p.result l.word (same_word (record { before = k; type_inv = record { program = k.shared_slice_known-2-1.given; places = k.shared_slice_known-1.given } })) on (r.result - l.i) (drop r.result a.places.now) l.reached c.past_alike-reached.ensures),
-    )
-
 -- ---- no place is left
-
-pub returns-then-word-eq0 : goal.returns-then-word-eq0
-returns-then-word-eq0 c =
-    let l = c.loop-i in
-    let a = c.args in
-    λ g h. sym (l.invariant.2 g h ∙ follow_none g l.word (drop l.i a.places.now) a.registers.now l.reached c.if-word-eq0.true)
 
 pub past_valued-requires : goal.past_valued-requires
 past_valued-requires c = (c.loop-i.invariant.0, omega (arith, c.wait_inherited.ensures))
 
-pub returns : goal.returns
-returns c =
-    let e = c.before.before.before in
-    let l = e.loop-i in
-    let a = e.args in
+-- no more places are left than stand above this one
+left_over : (places : List ℕ) (i p n : ℕ) → n ≡ prefix_len (λ x. eqb x p) (take (length places - (i + 1)) (drop (i + 1) places)) → i < length places → i + (1 + n) ≤ length places
+left_over places i p n e l =
+    let rest = take (length places - (i + 1)) (drop (i + 1) places) in
+    omega (arith, e, prefix_len-le-length (λ x. eqb x p) rest, length-take (length places - (i + 1)) (drop (i + 1) places))
+
+pub overflow_add-times : goal.overflow_add-times
+overflow_add-times c = record { fits = omega (arith, left_over c.args.places.now c.loop-i.i c.word_at-place.result c.alike-times.result c.alike-times.ensures c.loop-i-test.true) }
+
+pub overflow_add-i-else-place-below-2 : goal.overflow_add-i-else-place-below-2
+overflow_add-i-else-place-below-2 c = record { fits = omega (arith, left_over c.args.places.now c.loop-i.i c.word_at-place.result c.alike-times.result c.alike-times.ensures c.loop-i-test.true) }
+
+pub loop-i-preserved : goal.loop-i-preserved
+loop-i-preserved c =
+    let l = c.loop-i in
+    let a = c.args in
+    let p = c.word_at-place in
+    let n = c.alike-times.result in
+    let on = sym c.stands_on-else-place-below.ensures ∙ c.if-not-stands_on-2.false in
+    let run = alike_from a.places.now l.i p.result n c.loop-i-test.true (sym p.ensures.0) c.alike-times.ensures in
+    let word = l.invariant.1 (omega (arith, p.ensures.1, c.if-place-below.false)) ∙ ap (wait_at a.program.now) (sym c.if-place-below.false) in (
+      c.past_alike-reached.ensures.inside,
+      l.invariant.1,
+      λ g h. l.invariant.2 g h
+          ∙ (ap (λ z. follow g l.word z a.registers.now l.reached) run
+          ∙ follow_alike h a.registers.now p.result l.word word on (1 + n) (drop (l.i + (1 + n)) a.places.now) l.reached c.past_alike-reached.ensures),
+    )
+
+pub returns-then-word-ne0 : goal.returns-then-word-ne0
+returns-then-word-ne0 c =
+    let l = c.loop-i in
+    let a = c.args in
     let p = rw c.wait_inherited.ensures at c.past_valued.ensures in
-    λ g h. sym (l.invariant.2 g h ∙ follow_end g l.word a.places.now a.registers.now l.i l.reached e.loop-i-test.false e.if-word-eq0.false p)
+    λ g h. sym (l.invariant.2 g h ∙ follow_end g l.word a.places.now a.registers.now l.i l.reached c.loop-i-test.false c.if-word-ne0.true p)

@@ -1,12 +1,13 @@
 use mathlib.Core.Path.{ap, ◌∙◌}
 use Rattle.records.specs.Records.{handed_is}
+use Rattle.records.specs.States.{brought_back}
 use Rattle.run_lent.specs.Performing.{judged_fitting, judged_running, feed_uneven, feed_made}
 use Rattle.run_lent.proofs.feed_lent.Goals as goal
 
 pub returns-then-kinds-values : goal.returns-then-kinds-values
 returns-then-kinds-values c =
     let a = c.args in
-    λ g s. ap (λ z. handed_is z a.registers.now a.places.now) c.as_brought.ensures ∙ feed_uneven c.requires a.kinds.now a.values.now c.if-kinds-values.true g s
+    λ g s. ap (λ z. handed_is z a.registers.now a.places.now) (c.as_brought.ensures ∙ ap (brought_back a.brought) c.turned_back.ensures) ∙ feed_uneven c.requires a.kinds.now a.values.now c.if-kinds-values.true g s
 
 pub run_of-run-requires : goal.run_of-run-requires
 run_of-run-requires c = (c.args.registers.now, judged_fitting c.requires)

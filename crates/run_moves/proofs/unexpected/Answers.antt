@@ -8,5 +8,5 @@ use Rattle.run_moves.proofs.unexpected.Goals as goal
 pub returns-then-look-eq-END : goal.returns-then-look-eq-END
 returns-then-look-eq-END c = sym (ap (λ b. Machine.unexpected (look_if b c.args.look)) (eq-eqb c.args.look end_number c.if-look-eq-END.true))
 
-pub returns : goal.returns
-returns c = sym (ap (λ b. Machine.unexpected (look_if b c.args.look)) (ne_eqb c.args.look end_number c.if-look-eq-END.false))
+pub returns-else-look-eq-END : goal.returns-else-look-eq-END
+returns-else-look-eq-END c = sym (ap (λ b. Machine.unexpected (look_if b c.args.look)) (ne_eqb c.args.look end_number c.if-look-eq-END.false))

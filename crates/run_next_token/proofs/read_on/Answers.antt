@@ -34,5 +34,5 @@ returns-then-can_read_plain c = λ bound most us vs rs i even j e.
     turned_reaches (turned_plain bound most a.program.now us vs rs a.places.now a.run i even j (omega (arith, e, s.requires.1))
     (ap (can_read_plain a.program.now a.run) e ∙ at_hand (record { before = t; type_inv = record { program = t.shared_slice_known-1.given; places = t.slice_known-1.given } })) (c.read_plain.ensures rs))
 
-pub returns : goal.returns
-returns c = λ bound most us vs rs i even j e. reaches_none
+pub returns-else-can_read_plain : goal.returns-else-can_read_plain
+returns-else-can_read_plain c = λ bound most us vs rs i even j e. reaches_none

@@ -26,7 +26,7 @@ returns-then-first-eq0 c =
     let n = t.before in
     let b = start (record { before = n; type_inv = record { program = n.shared_slice_known-1.given; places = n.slice_known-1.given } }) in
     let r = b.requires.0 in
-    ((λ a q g lent d h ok. rw c.unexpected.ensures (blocked_unexpected h r.operation b.args.look b.requires.1 a q r.limit (sym (number (record { before = n; type_inv = record { program = n.shared_slice_known-1.given; places = n.slice_known-1.given } })) ∙ t.if-first-eq0.true))), refl)
+    ((λ a q g lent d h ok. blocked_unexpected h r.operation b.args.look b.requires.1 a q r.limit (sym (number (record { before = n; type_inv = record { program = n.shared_slice_known-1.given; places = n.slice_known-1.given } })) ∙ t.if-first-eq0.true) c.unexpected.result c.unexpected.ensures), refl)
 
 pub search-requires : goal.search-requires
 search-requires c =

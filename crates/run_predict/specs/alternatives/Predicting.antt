@@ -6,10 +6,10 @@ use Rattle.meaning.specs.Limits.{productions_limit}
 use Rattle.meaning.specs.Base.{In, all}
 use Rattle.meaning.specs.Grammar.{Grammar, Condition, production_at}
 use Rattle.meaning.specs.Value.{holds}
-use Rattle.meaning.specs.Scheme.{entry_tests, scheme}
+use Rattle.meaning.specs.Scheme.{entry_tests}
 use Rattle.meaning.specs.Rules.{WellFormed, Reads}
 use Rattle.meaning.specs.Sets.{has, starts}
-use Rattle.meaning.specs.Machine.{next, entered, read_register}
+use Rattle.meaning.specs.Machine.{entered, read_register}
 use Rattle.theory_program.specs.WordsStand.{stands_within}
 use Rattle.theory_program.specs.Parts.{in_set}
 use Rattle.theory_program.specs.Code.{conditions_length}

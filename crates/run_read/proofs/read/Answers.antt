@@ -15,7 +15,7 @@ pub returns-then-operand-look : goal.returns-then-operand-look
 returns-then-operand-look c = λ g lent d h ok.
     let s = c.before.before.before.before.before.before.before in
     let b = s.requires in
-    rw c.unexpected.ensures (blocked_read h s.args.look s.args.value b.limit b.operation (λ e. c.if-operand-look.true (omega (arith, e, (c.operand.ensures ∙ ap head_operand c.word_at.ensures.0)))))
+    blocked_read h s.args.look s.args.value b.limit b.operation (λ e. c.if-operand-look.true (omega (arith, e, (c.operand.ensures ∙ ap head_operand c.word_at.ensures.0)))) c.unexpected.result c.unexpected.ensures
 
 pub read_value-requires : goal.read_value-requires
 read_value-requires c =

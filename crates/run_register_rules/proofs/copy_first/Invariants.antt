@@ -1,10 +1,6 @@
-use Prim.Native.Nat.{◌+◌, ◌-◌, ◌*◌, ◌≤◌}
-use mathlib.Core.Path.{◌≡◌}
+use Prim.Native.Nat.{◌+◌, ◌*◌}
 use Rattle.run_register_rules.specs.Straight.{Straight}
 use Rattle.run_register_rules.proofs.copy_first.Given as goal
 
 abbrev pub invariant-loop-i : goal.invariant-loop-i
-invariant-loop-i l = (l.i ≤ l.count) × (l.p ≡ l.at + 2 * l.i) × Straight l.program l.at l.count l.height l.initial.registers l.i l.p l.registers
-
-abbrev pub decreases-loop-i : goal.decreases-loop-i
-decreases-loop-i l = l.count - l.i
+invariant-loop-i l = Straight l.program l.at l.count l.height l.initial.registers l.i (l.at + 2 * l.i) l.registers

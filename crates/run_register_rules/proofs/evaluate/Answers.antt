@@ -24,33 +24,21 @@ stands ws at n h r m low t k s i p now q = subst (λ z. Straight ws at n h z i p
 pub copy_first-copied-requires : goal.copy_first-copied-requires
 copy_first-copied-requires c = c.requires
 
-pub overflow_mul-p : goal.overflow_mul-p
-overflow_mul-p c = omega (arith, rules_inside c.copy_first-copied.ensures.1.left)
-
-pub overflow_add-p : goal.overflow_add-p
-overflow_add-p c = omega (arith, rules_inside c.copy_first-copied.ensures.1.left)
-
 pub loop-i-init : goal.loop-i-init
 loop-i-init c =
     let a = c.args in
     let k = c.copy_first-copied in
     let n = k.result in
-    (k.ensures.0, subst (λ m. Straight a.program.now a.at a.count a.height m n (a.at + 2 * n) k.new.registers) (sym (straight_origin a.program.now a.at a.count a.height a.registers.now c.requires.0 c.requires.2 k.ensures.1)) k.ensures.1)
-
-pub offset_bounds-program-p : goal.offset_bounds-program-p
-offset_bounds-program-p c = omega (arith, rules_inside c.loop-i.invariant.1.left)
+    subst (λ m. Straight a.program.now a.at a.count a.height m n (a.at + 2 * n) k.new.registers) (sym (straight_origin a.program.now a.at a.count a.height a.registers.now c.requires.0 c.requires.2 k.ensures.1)) k.ensures.1
 
 pub bounds-program-p : goal.bounds-program-p
-bounds-program-p c = omega (arith, rules_inside c.loop-i.invariant.1.left)
+bounds-program-p c = omega (arith, rules_inside c.loop-i.invariant.left)
 
 pub overflow_add-constant : goal.overflow_add-constant
-overflow_add-constant c = omega (arith, rules_inside c.loop-i.invariant.1.left)
-
-pub offset_bounds-program-p-in-loop-i : goal.offset_bounds-program-p-in-loop-i
-offset_bounds-program-p-in-loop-i c = omega (arith, rules_inside c.loop-i.invariant.1.left)
+overflow_add-constant c = omega (arith, rules_inside c.loop-i.invariant.left)
 
 pub bounds-program-p-in-loop-i : goal.bounds-program-p-in-loop-i
-bounds-program-p-in-loop-i c = omega (arith, rules_inside c.loop-i.invariant.1.left)
+bounds-program-p-in-loop-i c = omega (arith, rules_inside c.loop-i.invariant.left)
 
 pub overflow_cast-below : goal.overflow_cast-below
 overflow_cast-below c = omega arith
@@ -59,7 +47,7 @@ pub result-v-requires : goal.result-v-requires
 result-v-requires c =
     let a = c.args in
     let l = c.loop-i in
-    let w = stands a.program.now a.at a.count a.height a.registers.now _ c.requires.0 c.requires.2 _ c.copy_first-copied.ensures.1 l.i l.p l.registers l.invariant.1 in (
+    let w = stands a.program.now a.at a.count a.height a.registers.now _ c.requires.0 c.requires.2 _ c.copy_first-copied.ensures.1 l.i (a.at + 2 * l.i) l.registers l.invariant in (
       inside_now a.program.now a.at a.count a.height a.registers.now c.requires.0 c.requires.2 w,
       straight_applies a.program.now a.at a.count a.height a.registers.now c.requires.0 c.requires.2 w c.loop-i-test.true,
     )
@@ -68,7 +56,7 @@ pub mark_again-requires : goal.mark_again-requires
 mark_again-requires c =
     let a = c.args in
     let l = c.loop-i in
-    let w = stands a.program.now a.at a.count a.height a.registers.now _ c.requires.0 c.requires.2 _ c.copy_first-copied.ensures.1 l.i l.p l.registers l.invariant.1 in (
+    let w = stands a.program.now a.at a.count a.height a.registers.now _ c.requires.0 c.requires.2 _ c.copy_first-copied.ensures.1 l.i (a.at + 2 * l.i) l.registers l.invariant in (
       inside_now a.program.now a.at a.count a.height a.registers.now c.requires.0 c.requires.2 w,
       (stack a.height a.registers.now, stack_length a.height a.registers.now c.requires.0, c.requires.1),
     )
@@ -77,14 +65,14 @@ pub shape_of-registers-then-is_mark : goal.shape_of-registers-then-is_mark
 shape_of-registers-then-is_mark c =
     let a = c.args in
     let l = c.loop-i in
-    let w = stands a.program.now a.at a.count a.height a.registers.now _ c.requires.0 c.requires.2 _ c.copy_first-copied.ensures.1 l.i l.p l.registers l.invariant.1 in
+    let w = stands a.program.now a.at a.count a.height a.registers.now _ c.requires.0 c.requires.2 _ c.copy_first-copied.ensures.1 l.i (a.at + 2 * l.i) l.registers l.invariant in
     c.mark_again.auto.registers ∙ w.same_length_value
 
 pub returns-then-is_mark : goal.returns-then-is_mark
 returns-then-is_mark c =
     let a = c.args in
     let l = c.loop-i in
-    let w = stands a.program.now a.at a.count a.height a.registers.now _ c.requires.0 c.requires.2 _ c.copy_first-copied.ensures.1 l.i l.p l.registers l.invariant.1 in
+    let w = stands a.program.now a.at a.count a.height a.registers.now _ c.requires.0 c.requires.2 _ c.copy_first-copied.ensures.1 l.i (a.at + 2 * l.i) l.registers l.invariant in
     let back : to_z w64 (of_z w64 c.result-v.result) ≡ c.result-v.result = held (sfits_of c.result-v.type_inv) refl in
     let tested : is_mark c.result-v.result ≡ c.is_mark.result = sym (c.is_mark.ensures ∙ ap is_mark back) in
     straight_stop a.program.now a.at a.count a.height a.registers.now c.requires.0 c.requires.2 w c.loop-i-test.true c.result-v.result c.result-v.ensures (tested ∙ c.if-is_mark.true) _ c.mark_again.ensures
@@ -93,7 +81,7 @@ pub overflow_sub-v : goal.overflow_sub-v
 overflow_sub-v c =
     let a = c.args in
     let l = c.loop-i in
-    let w = stands a.program.now a.at a.count a.height a.registers.now _ c.requires.0 c.requires.2 _ c.copy_first-copied.ensures.1 l.i l.p l.registers l.invariant.1 in
+    let w = stands a.program.now a.at a.count a.height a.registers.now _ c.requires.0 c.requires.2 _ c.copy_first-copied.ensures.1 l.i (a.at + 2 * l.i) l.registers l.invariant in
     let k = straight_target a.program.now a.at a.count a.height a.registers.now c.requires.0 c.requires.2 w c.loop-i-test.true in
     omega (arith, k.0, k.1, c.rule_target-below.ensures)
 
@@ -104,40 +92,32 @@ pub bounds-registers-height : goal.bounds-registers-height
 bounds-registers-height c =
     let a = c.args in
     let l = c.loop-i in
-    let w = stands a.program.now a.at a.count a.height a.registers.now _ c.requires.0 c.requires.2 _ c.copy_first-copied.ensures.1 l.i l.p l.registers l.invariant.1 in
+    let w = stands a.program.now a.at a.count a.height a.registers.now _ c.requires.0 c.requires.2 _ c.copy_first-copied.ensures.1 l.i (a.at + 2 * l.i) l.registers l.invariant in
     let k = straight_target a.program.now a.at a.count a.height a.registers.now c.requires.0 c.requires.2 w c.loop-i-test.true in
     omega (arith, k.0, k.1, c.rule_target-below.ensures, w.same_length_value, c.requires.0)
-
-pub overflow_add-i : goal.overflow_add-i
-overflow_add-i c = omega arith
-
-pub overflow_add-p-in-loop-i : goal.overflow_add-p-in-loop-i
-overflow_add-p-in-loop-i c = omega (arith, rules_inside c.loop-i.invariant.1.left)
-
-pub loop-i-smaller : goal.loop-i-smaller
-loop-i-smaller c = omega arith
 
 pub loop-i-preserved : goal.loop-i-preserved
 loop-i-preserved c =
     let a = c.args in
     let l = c.loop-i in
-    let w = stands a.program.now a.at a.count a.height a.registers.now _ c.requires.0 c.requires.2 _ c.copy_first-copied.ensures.1 l.i l.p l.registers l.invariant.1 in
+    let w = stands a.program.now a.at a.count a.height a.registers.now _ c.requires.0 c.requires.2 _ c.copy_first-copied.ensures.1 l.i (a.at + 2 * l.i) l.registers l.invariant in
     let back : to_z w64 (of_z w64 c.result-v.result) ≡ c.result-v.result = held (sfits_of c.result-v.type_inv) refl in
     let tested : is_mark c.result-v.result ≡ c.is_mark.result = sym (c.is_mark.ensures ∙ ap is_mark back) in
     let m = set l.registers (a.height - c.rule_target-below.result) (to_z w64 (of_z w64 c.result-v.result)) in
-    let written : Straight a.program.now a.at a.count a.height a.registers.now (l.i + 1) (l.p + 2) m
+    let written : Straight a.program.now a.at a.count a.height a.registers.now (l.i + 1) (a.at + 2 * l.i + 2) m
     = rw (back, c.rule_target-below.ensures) (straight_turn a.program.now a.at a.count a.height a.registers.now c.requires.0 c.requires.2 w c.loop-i-test.true c.result-v.result c.result-v.ensures (tested ∙ c.if-is_mark.false)) in
-    (omega arith, subst (λ b. Straight a.program.now a.at a.count a.height b (l.i + 1) (l.p + 2) m) (sym (straight_origin a.program.now a.at a.count a.height a.registers.now c.requires.0 c.requires.2 c.copy_first-copied.ensures.1)) written)
+    let step : a.at + 2 * (l.i + 1) ≡ a.at + 2 * l.i + 2 = omega arith in
+    rw step (subst (λ b. Straight a.program.now a.at a.count a.height b (l.i + 1) (a.at + 2 * l.i + 2) m) (sym (straight_origin a.program.now a.at a.count a.height a.registers.now c.requires.0 c.requires.2 c.copy_first-copied.ensures.1)) written)
 
 pub shape_of-registers : goal.shape_of-registers
 shape_of-registers c =
     let a = c.args in
     let l = c.loop-i in
-    (stands a.program.now a.at a.count a.height a.registers.now _ c.requires.0 c.requires.2 _ c.copy_first-copied.ensures.1 l.i l.p l.registers l.invariant.1).same_length_value
+    (stands a.program.now a.at a.count a.height a.registers.now _ c.requires.0 c.requires.2 _ c.copy_first-copied.ensures.1 l.i (a.at + 2 * l.i) l.registers l.invariant).same_length_value
 
 pub returns : goal.returns
 returns c =
     let a = c.args in
     let l = c.loop-i in
-    let w = stands a.program.now a.at a.count a.height a.registers.now _ c.requires.0 c.requires.2 _ c.copy_first-copied.ensures.1 l.i l.p l.registers l.invariant.1 in
+    let w = stands a.program.now a.at a.count a.height a.registers.now _ c.requires.0 c.requires.2 _ c.copy_first-copied.ensures.1 l.i (a.at + 2 * l.i) l.registers l.invariant in
     straight_end a.program.now a.at a.count a.height a.registers.now c.requires.0 c.requires.2 w c.loop-i-test.false

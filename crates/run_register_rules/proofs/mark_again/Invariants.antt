@@ -1,4 +1,4 @@
-use Prim.Native.Nat.{◌-◌, ◌≤◌}
+use Prim.Native.Nat.{◌+◌, ◌*◌}
 use mathlib.Core.Path.{◌≡◌}
 use mathlib.Core.List.{List}
 use lib.IntN.{ℤ}
@@ -7,7 +7,4 @@ use Rattle.run_register_rules.proofs.Straight.{Remarking}
 use Rattle.run_register_rules.proofs.mark_again.Given as goal
 
 abbrev pub invariant-loop-i : goal.invariant-loop-i
-invariant-loop-i l = (l.i ≤ l.count) × ((rs : List ℤ) × (length rs ≡ l.height) × Remarking l.program l.at l.count l.height l.initial.registers rs l.i l.p l.registers)
-
-abbrev pub decreases-loop-i : goal.decreases-loop-i
-decreases-loop-i l = l.count - l.i
+invariant-loop-i l = (rs : List ℤ) × (length rs ≡ l.height) × Remarking l.program l.at l.count l.height l.initial.registers rs l.i (l.at + 2 * l.i) l.registers

@@ -1,4 +1,4 @@
-use Prim.Native.Nat.{ℕ, ◌-◌, ◌≤◌}
+use Prim.Native.Nat.{ℕ, ◌+◌, ◌-◌, ◌*◌}
 use mathlib.Core.Path.{◌≡◌}
 use mathlib.Core.Bool.{Bool}
 use mathlib.Core.List.{List}
@@ -16,9 +16,5 @@ hold_all rs cs = all (holds (read_register rs)) cs
 
 abbrev pub invariant-loop-i : goal.invariant-loop-i
 invariant-loop-i l =
-    (l.i ≤ l.count)
-    × Tests l.program l.p (l.count - l.i) (stack l.height l.registers)
-    × (hold_all (stack l.height l.registers) (conditions_from l.program l.at l.count) ≡ hold_all (stack l.height l.registers) (conditions_from l.program l.p (l.count - l.i)))
-
-abbrev pub decreases-loop-i : goal.decreases-loop-i
-decreases-loop-i l = l.count - l.i
+    Tests l.program (l.at + 3 * l.i) (l.count - l.i) (stack l.height l.registers)
+    × (hold_all (stack l.height l.registers) (conditions_from l.program l.at l.count) ≡ hold_all (stack l.height l.registers) (conditions_from l.program (l.at + 3 * l.i) (l.count - l.i)))

@@ -53,8 +53,8 @@ pass_symbol-requires c =
     let r = removal b.held b.operation in
     ((omega (arith, r.some_places), omega (arith, (bounds b.held).places, length-set s.args.places.now (s.args.run.places - 1) 0), popped_small b.held r), going (record { before = c.before.before.before.before; type_inv = record { program = c.before.before.before.before.shared_slice_known-1.given } }))
 
-pub overflow_sub-next : goal.overflow_sub-next
-overflow_sub-next c =
+pub overflow_sub-result : goal.overflow_sub-result
+overflow_sub-result c =
     let b = c.requires.0 in
     rw (c.operand-n.ensures ∙ ap head_operand c.word_at.ensures.0) (removal b.held b.operation).fits
 

@@ -6,8 +6,9 @@ use lib.ListN.{get_or}
 use Rattle.meaning.specs.Program.{evaluate_operation}
 use Rattle.meaning.specs.Machine.{ends}
 use Rattle.run_looking.specs.Judging.{looks_ahead}
-use Rattle.run_moves.specs.declared.Step.TheVariants.{Blocked}
-use Rattle.run_moves.specs.Held.{bounds}
+use Rattle.std.specs.Prelude.{Err}
+use Rattle.refusals.specs.declared.Refusal.TheVariants.{LimitReached}
+use Rattle.run_moves.specs.Held.{halting, bounds}
 use Rattle.run_next_token.specs.Operations.{limit_answers}
 use Rattle.run_next_token.specs.Turns.{turned_quiet}
 use Rattle.run_turn.specs.Stages.{Other, none, stage_turned}
@@ -39,7 +40,7 @@ returns-then-run-eq-MOVES_LIMIT c = λ bound most us vs i ps even.
     let e = c.before.before.before in
     let a = (start (record { before = e.before; type_inv = record { program = e.before.shared_slice_known-1.given } })).args in
     let m = a.registers.now in
-    turned_quiet bound most a.program.now us vs m ps a.run i even m ps (Blocked 35) (quiet (record { before = e; type_inv = record { program = e.shared_slice_known-1.given } })) (limit_answers (λ z. omega (arith, number (record { before = e; type_inv = record { program = e.shared_slice_known-1.given } }), z)) c.if-run-eq-MOVES_LIMIT.true ends)
+    turned_quiet bound most a.program.now us vs m ps a.run i even m ps (Err LimitReached) (quiet (record { before = e; type_inv = record { program = e.shared_slice_known-1.given } })) (limit_answers (λ z. omega (arith, number (record { before = e; type_inv = record { program = e.shared_slice_known-1.given } }), z)) c.if-run-eq-MOVES_LIMIT.true ends)
 
 pub evaluate-requires : goal.evaluate-requires
 evaluate-requires c =
@@ -54,5 +55,5 @@ returns c = λ bound most us vs i ps even.
     let e = v.before.before.before.before in
     let a = (start (record { before = e.before; type_inv = record { program = e.before.shared_slice_known-1.given } })).args in
     let m = a.registers.now in
-    stage_turned (Other a.program.now evaluate_operation) bound most a.program.now us vs i m ps a.run v.evaluate.new.registers ps v.evaluate.result
+    stage_turned (Other a.program.now evaluate_operation) bound most a.program.now us vs i m ps a.run v.evaluate.new.registers ps (halting v.evaluate.result)
     (turned_quiet bound most a.program.now us vs m ps a.run i even v.evaluate.new.registers ps v.evaluate.result (quiet (record { before = e; type_inv = record { program = e.shared_slice_known-1.given } })) (v.evaluate.ensures ps ends))

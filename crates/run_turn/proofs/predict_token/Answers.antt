@@ -1,6 +1,6 @@
 use native.Mathlib.Omega.{arith}
 use mathlib.Core.Path.{sym, ap, ◌∙◌}
-use Rattle.run_moves.specs.declared.Step.TheVariants.{Blocked}
+use Rattle.std.specs.Prelude.{Err}
 use Rattle.run_moves.specs.Held.{bounds}
 use Rattle.run_moves.specs.Passing.{look_of}
 use Rattle.run_next_token.specs.Turns.{turned_predict}
@@ -38,8 +38,8 @@ returns-then-entry-eq0 c =
     let r = s.requires.0 in
     let u = a.look in
     λ bound most us vs i even j is.
-    turned_predict bound most a.program.now us vs a.registers.now a.places.now a.run i even j a.registers.now a.places.now (Blocked c.unexpected.result) r.operation (omega (arith, is, s.requires.1))
-    (λ l same g lent f h ok. rw c.unexpected.ensures (blocked_unexpected h r.operation u s.requires.1 l (same ∙ ap look_of is) r.limit (first_zero h r.operation u s.requires.1 (sym w.entry_at-entry.ensures ∙ t.if-entry-eq0.true))))
+    turned_predict bound most a.program.now us vs a.registers.now a.places.now a.run i even j a.registers.now a.places.now (Err c.unexpected.result) r.operation (omega (arith, is, s.requires.1))
+    (λ l same g lent f h ok. blocked_unexpected h r.operation u s.requires.1 l (same ∙ ap look_of is) r.limit (first_zero h r.operation u s.requires.1 (sym w.entry_at-entry.ensures ∙ t.if-entry-eq0.true)) c.unexpected.result c.unexpected.ensures)
 
 pub search_and_read-requires : goal.search_and_read-requires
 search_and_read-requires c =

@@ -1,5 +1,5 @@
 -- What a predict of an alternative without entry tests leads to: the place of the alternative, and where the token's read comes next, that place with the token passed.
-use Rattle.std.specs.Prelude.{ℕ, ◌+◌, ◌-◌, ◌*◌, ◌≤◌, ◌<◌, ◌≡◌, refl, true, cond, List, [], ◌∷◌, length, get_or, set, ℤ, pos}
+use Rattle.std.specs.Prelude.{ℕ, ◌+◌, ◌-◌, ◌*◌, ◌≤◌, ◌<◌, ◌≡◌, refl, true, cond, List, [], ◌∷◌, length, get_or, set, ℤ, pos, Ok, Err}
 use Rattle.std.proofs.Common.{arith, ap, ◌∙◌, subst, set-set, get_or-set_same, eq-eqb, ne_eqb}
 use Rattle.meaning.specs.Limits.{productions_limit}
 use Rattle.meaning.specs.Grammar.{place_at}
@@ -8,9 +8,8 @@ use Rattle.meaning.specs.Program.{predict_operation, read_operation}
 use Rattle.theory_program.specs.Parts.{head_operation, head_operand, directory_step, directory_number, directory_scheme}
 use Rattle.run_looking.specs.Judging.{judged_of, judged_taken}
 use Rattle.run_moves.specs.declared.Run.{Run}
-use Rattle.run_moves.specs.declared.Step.{Step}
-use Rattle.run_moves.specs.declared.Step.TheVariants.{Moved, Blocked}
-use Rattle.run_moves.specs.Held.{ReadyForMove, bounds}
+use Rattle.refusals.specs.declared.Refusal.TheVariants.{NoPlace}
+use Rattle.run_moves.specs.Held.{Step, halting, ReadyForMove, bounds}
 use Rattle.run_moves.specs.Moves.{count_if, passed}
 use Rattle.run_moves.specs.Passing.{look_of, made_read, read_inside}
 use Rattle.run_predict.specs.Entering.{step_by, entered_by, placed, untested_small, made_untested}
@@ -20,7 +19,7 @@ use Rattle.run_next_token.specs.Reading.{can_read_plain, plain_of, turned_after,
 
 -- moves from the predict on, whatever tokens come behind the one at hand, u, which is taken
 abbrev pub Predicts : List ℕ → List ℤ → List ℕ → Run → ℕ → List ℕ → Step → Type 0
-Predicts ws rs ps run u ps' s = (bound most : ℕ) (us : List ℕ) (vs : List ℤ) (i : ℕ) → length us ≡ length vs → 1 ≡ judged_of bound most us i run.tokens → get_or us i 0 ≡ u → Turned bound most ws us vs i rs ps run rs ps' s
+Predicts ws rs ps run u ps' s = (bound most : ℕ) (us : List ℕ) (vs : List ℤ) (i : ℕ) → length us ≡ length vs → Ok tt ≡ judged_of bound most us i run.tokens → get_or us i 0 ≡ u → Turned bound most ws us vs i rs ps run rs ps' (halting s)
 
 -- the run after the predict, and after the read behind it
 abbrev pub after_predict : Run → ℕ → Run
@@ -53,17 +52,17 @@ module _ (ws ps : List ℕ) (run : Run) (u d : ℕ) (small : u < 64) (is : d ≡
         turned_predict bound most ws us vs rs ps run i even j rs (placed run.places (directory_number d) ps) (entered_by run address (length ps)) o (omega (arith, e, small))
         (λ l same g lent c h ok. made_untested h o u small word_high limit l (same ∙ ap look_of e) ok (directory_number d) address (ap directory_number is) (ap directory_scheme is) (bounds h).places)
 
-    pub entering_full : run.places ≡ length ps → (rs : List ℤ) → Predicts ws rs ps run u ps (Blocked 32)
+    pub entering_full : run.places ≡ length ps → (rs : List ℤ) → Predicts ws rs ps run u ps (Err NoPlace)
     entering_full full rs bound most us vs i even j e =
-        subst (λ b. Turned bound most ws us vs i rs ps run rs (cond b ps (set ps run.places (place_at (directory_number d - 1) 0))) (step_by b run address)) (eq-eqb run.places (length ps) full) (enters rs bound most us vs i even j e)
+        subst (λ b. Turned bound most ws us vs i rs ps run rs (cond b ps (set ps run.places (place_at (directory_number d - 1) 0))) (halting (step_by b run address))) (eq-eqb run.places (length ps) full) (enters rs bound most us vs i even j e)
 
     module _ (room : run.places < length ps) where
       abbrev pushed : List ℕ
       pushed = set ps run.places (place_at (directory_number d - 1) 0)
 
-      pub entering_pushes : (rs : List ℤ) → Predicts ws rs ps run u pushed (Moved (after_predict run address))
+      pub entering_pushes : (rs : List ℤ) → Predicts ws rs ps run u pushed (Ok (after_predict run address))
       entering_pushes rs bound most us vs i even j e =
-          subst (λ b. Turned bound most ws us vs i rs ps run rs (cond b ps pushed) (step_by b run address)) (ne_eqb run.places (length ps) (λ z. omega (arith, z, room))) (enters rs bound most us vs i even j e)
+          subst (λ b. Turned bound most ws us vs i rs ps run rs (cond b ps pushed) (halting (step_by b run address))) (ne_eqb run.places (length ps) (λ z. omega (arith, z, room))) (enters rs bound most us vs i even j e)
 
       -- then a configuration is held
       pub entering_holds : {rs : List ℤ} → ReadyForMove ws rs ps run predict_operation → Running ws rs pushed (after_predict run address)
@@ -83,7 +82,7 @@ module _ (ws ps : List ℕ) (run : Run) (u d : ℕ) (small : u < 64) (is : d ≡
             let left : run.moves + 1 < moves_limit = omega (arith, reading.1, (bounds h).moves) in
             (read_inside h left reading.0, left)
 
-        pub entering_reads : run.moves + 1 < moves_limit → (rs : List ℤ) → Predicts ws rs ps run u (passed ws (address + 1) (run.places + 1) pushed) (Moved (after_read run address))
+        pub entering_reads : run.moves + 1 < moves_limit → (rs : List ℤ) → Predicts ws rs ps run u (passed ws (address + 1) (run.places + 1) pushed) (Ok (after_read run address))
         entering_reads left rs bound most us vs i even j e =
             let here : i ≡ i + (run.tokens - run.tokens) = omega arith in
             turned_then here

@@ -22,7 +22,7 @@ returns-then-kinds-n c =
 pub returns-then-run-gt-TOKENS_BEFORE : goal.returns-then-run-gt-TOKENS_BEFORE
 returns-then-run-gt-TOKENS_BEFORE c =
     let l : c.args.run.tokens < length c.args.kinds.now = omega (arith, c.if-kinds-n.false) in
-    ends_35 c.args.program.now c.args.kinds.now c.args.registers.now c.args.run c.args.end l (omega (arith, c.if-run-gt-TOKENS_BEFORE.true))
+    rw c.number.ensures (ends_35 c.args.program.now c.args.kinds.now c.args.registers.now c.args.run c.args.end l (omega (arith, c.if-run-gt-TOKENS_BEFORE.true)))
 
 pub word_at-requires : goal.word_at-requires
 word_at-requires c = omega (arith, stands_within (segment_at c.requires.held.begins))
@@ -33,9 +33,9 @@ overflow_cast-kinds c = omega (arith, (c.type_inv.kinds c.args.run.tokens).fits)
 pub returns-then-word_at-kinds : goal.returns-then-word_at-kinds
 returns-then-word_at-kinds c =
     let l : c.args.run.tokens < length c.args.kinds.now = omega (arith, c.if-kinds-n.false) in
-    ends_20 c.args.program.now c.args.kinds.now c.args.registers.now c.args.run c.args.end l (omega (arith, c.if-run-gt-TOKENS_BEFORE.false)) (omega (arith, c.if-word_at-kinds.true, c.word_at.ensures.0))
+    rw c.number-then-word_at-kinds.ensures (ends_20 c.args.program.now c.args.kinds.now c.args.registers.now c.args.run c.args.end l (omega (arith, c.if-run-gt-TOKENS_BEFORE.false)) (omega (arith, c.if-word_at-kinds.true, c.word_at.ensures.0)))
 
 pub returns : goal.returns
 returns c =
     let l : c.args.run.tokens < length c.args.kinds.now = omega (arith, c.if-kinds-n.false) in
-    ends_21 c.args.program.now c.args.kinds.now c.args.registers.now c.args.run c.args.end l (omega (arith, c.if-run-gt-TOKENS_BEFORE.false)) (omega (arith, c.if-word_at-kinds.false, c.word_at.ensures.0))
+    rw c.number-2.ensures (ends_21 c.args.program.now c.args.kinds.now c.args.registers.now c.args.run c.args.end l (omega (arith, c.if-run-gt-TOKENS_BEFORE.false)) (omega (arith, c.if-word_at-kinds.false, c.word_at.ensures.0)))

@@ -1,21 +1,24 @@
 use Prim.Native.Nat.{◌≤◌}
 use native.Mathlib.Omega.{arith}
-use mathlib.Core.Path.{subst}
+use mathlib.Core.Path.{◌≡◌, ap, subst}
+use borrow.Author.Rules.{rules}
+use Rattle.refusals.specs.Numbers.{refusal_number, refusal_or_zero}
+use Rattle.sheet_room.specs.Room.{refusal_some}
 use lib.ListN.{get_or}
 use Rattle.theory_program.specs.Addresses.{segment_at}
 use Rattle.theory_program.specs.WordsStand.{stands_within}
 use Rattle.sheet.specs.tree.steps.Walks.{NodeOut}
-use Rattle.sheet.specs.Starting.{first_numbers, room_left, whole_lacking, whole_in, whole_failed, whole_ended, whole_over}
+use Rattle.sheet.specs.Starting.{Lacking, first_numbers, room_left, whole_lacking, whole_in, whole_failed, whole_ended, whole_over}
 use Rattle.sheet.proofs.segment.Goals as goal
 
 pub word_at-count-requires : goal.word_at-count-requires
 word_at-count-requires c = omega (arith, stands_within (segment_at c.requires.0.shown.begins))
 
-pub returns-then-number-ne0 : goal.returns-then-number-ne0
-returns-then-number-ne0 c =
+pub returns-in-Err : goal.returns-in-Err
+returns-in-Err c =
     let w = c.word_at-count in
-    let f = c.lacking-number in
-    whole_lacking _ c.args.kinds.now c.args.values.now _ _ _ _ c.requires.1 c.args.sheet.now _ _ w.ensures.0 f.ensures c.if-number-ne0.true
+    let e : refusal_or_zero c.lacking.result ≡ refusal_number c.in-Err.refusal = ap refusal_or_zero c.in-Err.is in
+    rw c.number.ensures (whole_lacking _ c.args.kinds.now c.args.values.now _ _ _ _ c.requires.1 c.args.sheet.now _ _ w.ensures.0 (subst (Lacking w.result c.args.n c.args.k) e c.lacking.ensures) (refusal_some c.in-Err.refusal))
 
 pub open-requires : goal.open-requires
 open-requires c =
@@ -23,14 +26,14 @@ open-requires c =
 
 pub node-requires : goal.node-requires
 node-requires c =
-    let x = room_left c.word_at-count.result c.args.n c.args.k c.lacking-number.result c.lacking-number.ensures c.if-number-ne0.false in
+    let x = room_left c.word_at-count.result c.args.n c.args.k (refusal_or_zero c.lacking.result) c.lacking.ensures (let z : refusal_or_zero c.lacking.result ≡ 0 = search rules in z) in
     let r : (get_or c.args.program.now 4 0 ≤ c.args.n) × (1 ≤ c.args.k) = (omega (arith, x.0, c.word_at-count.ensures.0), x.1) in
     let o = c.«open» in
     whole_in _ _ _ _ _ _ _ c.requires.1 c.args.sheet.now r.0 r.1 c.requires.2 c.requires.3 _ _ o.ensures _ c.word_at-count.ensures.0 c.requires.0
 
 pub over-requires : goal.over-requires
 over-requires c =
-    let x = room_left c.word_at-count.result c.args.n c.args.k c.lacking-number.result c.lacking-number.ensures c.if-number-ne0.false in
+    let x = room_left c.word_at-count.result c.args.n c.args.k (refusal_or_zero c.lacking.result) c.lacking.ensures (let z : refusal_or_zero c.lacking.result ≡ 0 = search rules in z) in
     let r : (get_or c.args.program.now 4 0 ≤ c.args.n) × (1 ≤ c.args.k) = (omega (arith, x.0, c.word_at-count.ensures.0), x.1) in
     let o = c.«open» in
     let a = c.args in
@@ -40,7 +43,7 @@ over-requires c =
 
 pub returns-then-node : goal.returns-then-node
 returns-then-node c =
-    let x = room_left c.word_at-count.result c.args.n c.args.k c.lacking-number.result c.lacking-number.ensures c.if-number-ne0.false in
+    let x = room_left c.word_at-count.result c.args.n c.args.k (refusal_or_zero c.lacking.result) c.lacking.ensures (let z : refusal_or_zero c.lacking.result ≡ 0 = search rules in z) in
     let r : (get_or c.args.program.now 4 0 ≤ c.args.n) × (1 ≤ c.args.k) = (omega (arith, x.0, c.word_at-count.ensures.0), x.1) in
     let o = c.«open» in
     let a = c.args in
@@ -57,7 +60,7 @@ overflow_cast-result c =
 
 pub returns : goal.returns
 returns c =
-    let x = room_left c.word_at-count.result c.args.n c.args.k c.lacking-number.result c.lacking-number.ensures c.if-number-ne0.false in
+    let x = room_left c.word_at-count.result c.args.n c.args.k (refusal_or_zero c.lacking.result) c.lacking.ensures (let z : refusal_or_zero c.lacking.result ≡ 0 = search rules in z) in
     let r : (get_or c.args.program.now 4 0 ≤ c.args.n) × (1 ≤ c.args.k) = (omega (arith, x.0, c.word_at-count.ensures.0), x.1) in
     let o = c.«open» in
     let a = c.args in

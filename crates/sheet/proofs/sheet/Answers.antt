@@ -6,7 +6,7 @@ use Rattle.sheet.proofs.sheet.Goals as goal
 pub sheet_under-requires : goal.sheet_under-requires
 sheet_under-requires c =
     let m = c.program_of in
-    (standing_readable (stands m.result m.ensures.cases c.in-Written.length c.in-Written.is), c.all_values.ensures)
+    (standing_readable (stands m.result m.ensures.cases _ c.in-Written.is), c.all_values.ensures)
 
 pub returns-in-Short : goal.returns-in-Short
 returns-in-Short c =
@@ -22,4 +22,4 @@ pub returns-in-Written : goal.returns-in-Written
 returns-in-Written c =
     let m = c.program_of in
     let u = c.sheet_under in
-    under_table (stands m.result m.ensures.cases c.in-Written.length c.in-Written.is) c.args.registers c.args.places c.args.kinds.now c.args.values.now c.args.sheet.now u.new.sheet u.result u.ensures
+    under_table (stands m.result m.ensures.cases _ c.in-Written.is) c.args.registers c.args.places c.args.kinds.now c.args.values.now c.args.sheet.now u.new.sheet u.result u.ensures

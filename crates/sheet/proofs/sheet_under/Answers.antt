@@ -1,10 +1,12 @@
 use Prim.Native.Nat.{◌≤◌, ◌<◌, min}
 use native.Mathlib.Omega.{arith}
-use mathlib.Core.Path.{◌≡◌, sym, ap, subst}
+use mathlib.Core.Path.{◌≡◌, sym, ap, subst, ◌∙◌}
+use borrow.Author.Rules.{rules}
+use Rattle.refusals.specs.Numbers.{refusal_number, refusal_or_zero}
 use mathlib.Core.List.{[], ◌++◌}
 use lib.ListN.{length, drop}
 use Rattle.meaning.specs.Limits.{registers_limit, places_limit}
-use Rattle.sheet_room.specs.Room.{is_short_lem, has_room}
+use Rattle.sheet_room.specs.Room.{refusal_some, is_short_lem, has_room}
 use Rattle.sheet_answers.specs.declared.Answer.TheVariants.{Value, Refused, TableRefused}
 use Rattle.sheet.specs.Segments.{SegmentDone, Under, none_written, under_uneven, under_refused, under_table, under_short, under_written}
 use Rattle.sheet.proofs.sheet_under.Goals as goal
@@ -17,10 +19,10 @@ returns-then-kinds-values c =
     let n = c.args.registers in
     let k = c.args.places in
     let out = c.args.sheet.now in
-    under_uneven ws ks vs n k out c.if-kinds-values.true
+    rw c.number.ensures (under_uneven ws ks vs n k out c.if-kinds-values.true)
 
-pub returns-then-number-ne0 : goal.returns-then-number-ne0
-returns-then-number-ne0 c =
+pub returns-in-Err : goal.returns-in-Err
+returns-in-Err c =
     let ws = c.args.program.now in
     let ks = c.args.kinds.now in
     let vs = c.args.values.now in
@@ -32,10 +34,11 @@ returns-then-number-ne0 c =
     let same : last ++ drop 0 out ≡ out = none_written last out (omega (arith, wk.auto.sheet)) in
     let even : length ks ≡ length vs = c.if-kinds-values.false in
     let w : SegmentDone ws ks vs (min n registers_limit) (min k places_limit) [] last (Value c.in-Value.value c.in-Value.moves c.in-Value.size) = subst (λ z. SegmentDone ws ks vs (min n registers_limit) (min k places_limit) [] last z) c.in-Value.is wk.ensures in
-    let judged = is_short_lem _ _ _ c.refusal-number.ensures c.if-number-ne0.true in
+    let r = c.in-Err.refusal in
+    let judged = is_short_lem _ _ (refusal_number r) (sym (ap refusal_or_zero c.in-Err.is) ∙ c.refusal.ensures) (refusal_some r) in
     let short : length out < c.in-Value.size = omega (arith, ap length same, judged.0) in
     let answer : Under ws ks vs n k out out (Refused 41 0) = under_short ws ks vs n k out even c.requires.1 [] last c.in-Value.value c.in-Value.moves c.in-Value.size w short in
-    subst (λ z. Under ws ks vs n k out z (Refused c.refusal-number.result 0)) (sym same) (subst (λ m. Under ws ks vs n k out out (Refused m 0)) (sym judged.1) answer)
+    rw c.number-in-Err.ensures (subst (λ z. Under ws ks vs n k out z (Refused (refusal_number r) 0)) (sym same) (subst (λ m. Under ws ks vs n k out out (Refused m 0)) (sym judged.1) answer))
 
 pub returns-in-TableRefused : goal.returns-in-TableRefused
 returns-in-TableRefused c =
@@ -67,8 +70,8 @@ returns-in-Refused c =
     let w : SegmentDone ws ks vs (min n registers_limit) (min k places_limit) [] last (Refused c.in-Refused.number c.in-Refused.tokens) = subst (λ z. SegmentDone ws ks vs (min n registers_limit) (min k places_limit) [] last z) c.in-Refused.is wk.ensures in
     subst (λ z. Under ws ks vs n k out z (Refused c.in-Refused.number c.in-Refused.tokens)) (sym same) (under_refused ws ks vs n k out even c.requires.1 [] last c.in-Refused.number c.in-Refused.tokens w)
 
-pub returns-else-number-ne0 : goal.returns-else-number-ne0
-returns-else-number-ne0 c =
+pub returns-in_default : goal.returns-in_default
+returns-in_default c =
     let ws = c.args.program.now in
     let ks = c.args.kinds.now in
     let vs = c.args.values.now in
@@ -82,6 +85,6 @@ returns-else-number-ne0 c =
     let w : SegmentDone ws ks vs (min n registers_limit) (min k places_limit) [] last (Value c.in-Value.value c.in-Value.moves c.in-Value.size) = subst (λ z. SegmentDone ws ks vs (min n registers_limit) (min k places_limit) [] last z) c.in-Value.is wk.ensures in
     let w2 = c.walk-in-Value in
     let after = w2.new.sheet in
-    let room : c.in-Value.size ≤ length out = omega (arith, ap length same, has_room _ _ _ c.refusal-number.ensures c.if-number-ne0.false) in
+    let room : c.in-Value.size ≤ length out = omega (arith, ap length same, has_room _ _ (refusal_or_zero c.refusal.result) c.refusal.ensures (let z : refusal_or_zero c.refusal.result ≡ 0 = search rules in z)) in
     let written : SegmentDone ws ks vs (min n registers_limit) (min k places_limit) out after w2.result = subst (λ z. SegmentDone ws ks vs (min n registers_limit) (min k places_limit) z after w2.result) same w2.ensures in
     under_written ws ks vs n k out even c.requires.1 [] last c.in-Value.value c.in-Value.moves c.in-Value.size w room after w2.result written

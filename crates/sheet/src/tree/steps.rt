@@ -10,7 +10,7 @@ ghost use Rattle.sheet.specs.tree.steps.Leaving.{Leaves};
 ghost use Rattle.sheet.specs.tree.steps.Cycle.{Passes};
 ghost use Rattle.sheet.specs.tree.steps.Walks.{PassAt, PassOut, EnterAt, Opened, LeaveAt, LeftBy};
 
-use run_machine::Ended;
+use run_machine::Failed;
 use run_moves::Run;
 
 // ---- the numbers: tokens, moves, heights of registers and places, the address; where the sheet goes on, or the number that refuses; how many registers and places are lent
@@ -40,18 +40,18 @@ fn store(numbers: &mut [u64; 8], run: Run)
 }
 
 // What the moves came to; whether none was refused.
-fn store_end(numbers: &mut [u64; 8], ended: Ended) -> bool
+fn store_end(numbers: &mut [u64; 8], ended: Result<Run, Failed>) -> bool
     requires { length numbers.old ≡ 8 }
     ensures { AnswerWritten numbers.old ended result numbers.new }
 {
     match ended {
-        Ended::Stopped(next) => {
+        Ok(next) => {
             store(numbers, next);
             true
         }
-        Ended::Failed(last, k) => {
-            store(numbers, last);
-            numbers[5] = k as u64;
+        Err(failed) => {
+            store(numbers, failed.run);
+            numbers[5] = failed.refusal.number() as u64;
             false
         }
     }
@@ -76,14 +76,12 @@ fn pass(
     kinds: &[u8],
     values: &[i32],
     run: Run,
-) -> Ended
+) -> Result<Run, Failed>
     requires { Walking program.now kinds.now values.now registers.old places.old run × IsLook (head_operation (get_or program.now run.at 0)) }
     ensures { ((k : ℕ) → Passes program.now kinds.now values.now registers.old places.old run k registers.new places.new (walked_as result k)) × ((k : ℕ) → Rests program.now (walked_as result k)) }
 {
-    match crate::tree::moves::step(registers, places, program, kinds, values, run) {
-        Ended::Failed(last, k) => Ended::Failed(last, k),
-        Ended::Stopped(next) => crate::tree::moves::settle(registers, places, program, next),
-    }
+    let next = crate::tree::moves::step(registers, places, program, kinds, values, run)?;
+    crate::tree::moves::settle(registers, places, program, next)
 }
 
 // The node in progress is left: its record is written, then it is removed; then the moves of the one below that need no next token.
@@ -95,15 +93,13 @@ fn depart(
     run: Run,
     at: usize,
     before: u64,
-) -> Ended
+) -> Result<Run, Failed>
     requires { Inner program.now registers.old places.old run × (head_operation (get_or program.now run.at 0) ≡ remove_operation) × (at < 800000000000) × (before ≤ run.tokens) × (length registers.old ≤ registers_limit) }
     ensures { ((end : ℕ) → Leaves program.now registers.old places.old run at before end sheet.old registers.new places.new sheet.new (walked_as result end)) × ((end : ℕ) → Rests program.now (walked_as result end)) }
 {
     crate::tree::nodes::write_record(registers, places, program, sheet, run, at, before);
-    match crate::tree::moves::made(registers, places, program, run, limits::END, value::MARK) {
-        Ended::Failed(last, k) => Ended::Failed(last, k),
-        Ended::Stopped(next) => crate::tree::moves::settle(registers, places, program, next),
-    }
+    let next = crate::tree::moves::made(registers, places, program, run, limits::END, value::MARK)?;
+    crate::tree::moves::settle(registers, places, program, next)
 }
 
 // A token is read, or a node entered, and the moves that need no next token are made, on the cells that are lent.

@@ -1,51 +1,20 @@
-use native.Mathlib.Omega.{arith}
-use Rattle.table_carriers.proofs.Carrying.{carrying_start, carrying_refused, carrying_more, carrying_end}
+use Rattle.std.proofs.Common.{◌≡◌, arith}
+use Rattle.std.proofs.lemmas.Grind.{common_steps}
+use Rattle.std.proofs.lemmas.Result.{err_from_is_err_and}
+use Rattle.refusals.specs.Numbers.{fault_or_zero}
+use Rattle.table_carriers.proofs.Carrying.{carrying_start, carrying_refused, carrying_more}
 use Rattle.table_carriers.proofs.read_carriers.Goals as goal
 
-pub loop-number-init : goal.loop-number-init
-loop-number-init c = carrying_start _ _ _ (omega arith)
+pub loop-at-init : goal.loop-at-init
+loop-at-init c = carrying_start _ _ _ (omega arith)
 
-pub is_carrier-requires : goal.is_carrier-requires
-is_carrier-requires c = tt
+pub returns-in_err-map_err : goal.returns-in_err-map_err
+returns-in_err-map_err c =
+    let p = err_from_is_err_and c.from_residual.result c.from_residual.ensures.1 in
+    rw p.1 (carrying_refused _ _ _ _ _ _ c.loop-at.invariant _ c.judge_carrier.ensures p.0 (grind (arith, common_steps)) (grind (arith, common_steps)))
 
-pub carrier_number-number-requires : goal.carrier_number-number-requires
-carrier_number-number-requires c = c.is_carrier.ensures.stands c.loop-number-test.true
-
-pub returns-then-number-ne0 : goal.returns-then-number-ne0
-returns-then-number-ne0 c = carrying_refused _ _ _ _ _ _ c.loop-number.invariant _ c.carrier_number-number.ensures c.if-number-ne0.true
-
-pub overflow_add-terminal : goal.overflow_add-terminal
-overflow_add-terminal c = omega (arith, c.carrier_number-number.ensures.long (omega arith))
-
-pub bounds-table-at : goal.bounds-table-at
-bounds-table-at c = omega (arith, c.carrier_number-number.ensures.long (omega arith))
-
-pub of_token-requires : goal.of_token-requires
-of_token-requires c = tt
-
-pub union-carrying-requires : goal.union-carrying-requires
-union-carrying-requires c = tt
-
-pub wide-least-requires : goal.wide-least-requires
-wide-least-requires c = tt
-
-pub overflow_add-least : goal.overflow_add-least
-overflow_add-least c = omega (arith, c.wide-least.ensures.1)
-
-pub overflow_add-at : goal.overflow_add-at
-overflow_add-at c = omega (arith, c.carrier_number-number.ensures.long (omega arith))
-
-pub loop-number-smaller : goal.loop-number-smaller
-loop-number-smaller c = omega (arith, c.carrier_number-number.ensures.long (omega arith))
-
-pub loop-number-preserved : goal.loop-number-preserved
-loop-number-preserved c =
-    let un = c.before.before in
-    let ot = un.before in
-    let cn = ot.before.before.before in
-    let lp = cn.before.before.before in
-    rw un.union-carrying.ensures.word
-    (carrying_more _ _ _ _ _ _ lp.loop-number.invariant _ cn.carrier_number-number.ensures (omega arith) lp.requires.1 _ _ ot.of_token.ensures (omega (arith, c.wide-least.ensures.0)))
-
-pub returns : goal.returns
-returns c = carrying_end _ _ _ _ _ _ c.loop-number.invariant (c.is_carrier.ensures.other c.loop-number-test.false)
+pub loop-at-preserved : goal.loop-at-preserved
+loop-at-preserved c =
+    let fine : fault_or_zero c.judge_carrier.result ≡ 0 = grind (arith, common_steps) in
+    rw c.union-carrying.ensures.word
+    (carrying_more _ _ _ _ _ _ c.loop-at.invariant _ c.judge_carrier.ensures fine c.requires.1 _ _ c.of_token.ensures (grind (arith, common_steps)))

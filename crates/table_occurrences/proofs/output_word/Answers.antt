@@ -7,15 +7,10 @@ use Rattle.table_occurrences.proofs.output_word.Goals as goal
 
 pub returns-then-k-eq0 : goal.returns-then-k-eq0
 returns-then-k-eq0 c =
-    let st = c.before.before in
-    let i = st.args.i in
-    let s = st.args.s in
-    let small = range_small i (i + s) (omega arith) st.requires in
-    (c.range_word.ensures ∙ output_first st.args.k i s c.if-k-eq0.true, omega (arith, small, c.range_word.ensures))
+    let small = range_small c.args.i (c.args.i + c.args.s) (omega arith) c.requires in
+    (c.range_word.ensures ∙ output_first c.args.k c.args.i c.args.s c.if-k-eq0.true, omega (arith, small, c.range_word.ensures))
 
-pub returns : goal.returns
-returns c =
-    let st = c.before.before in
-    let i = st.args.i in
-    let small = range_small 0 i (omega arith) (omega (arith, st.requires)) in
-    (c.range_word-2.ensures ∙ output_later st.args.k i st.args.s c.if-k-eq0.false, omega (arith, small, c.range_word-2.ensures))
+pub returns-else-k-eq0 : goal.returns-else-k-eq0
+returns-else-k-eq0 c =
+    let small = range_small 0 c.args.i (omega arith) (omega arith) in
+    (c.range_word-else-k-eq0.ensures ∙ output_later c.args.k c.args.i c.args.s c.if-k-eq0.false, omega (arith, small, c.range_word-else-k-eq0.ensures))

@@ -1,52 +1,32 @@
-use mathlib.Core.Path.{refl, sym, subst, ap, ◌∙◌}
+use mathlib.Core.Path.{refl}
 use native.Mathlib.Omega.{arith}
-use lib.ListN.{length-set}
-use Rattle.table_production.specs.Productions.{ProductionRead}
 use Rattle.table_production.proofs.Producing.{small_body}
-use Rattle.table_production.proofs.ProductionRows.{production_refused, production_read}
+use Rattle.table_production.proofs.ProductionRows.{production_refused, production_read, production_stopped}
 use Rattle.table_production.proofs.Wording.{rights_read}
 use Rattle.table_production.proofs.read_production.Goals as goal
 
-pub read_field-field-requires : goal.read_field-field-requires
-read_field-field-requires c = let pre = c.requires in (pre.0, pre.2, pre.3, pre.4, pre.12, pre.7, refl, refl)
-
-pub returns-then-field-ne0 : goal.returns-then-field-ne0
-returns-then-field-ne0 c =
-    let some = c.if-field-ne0.true in
-    let pre = c.requires in
-    let field = c.read_field-field.ensures in record {
-      read = subst
-          (ProductionRead _ _ _ _ _ _ _ _ _ _ _ _ _ _)
-          (sym c.refused_after.ensures)
-          (production_refused _ _ _ _ _ _ _ _ _ _ _ _ _ field.judged pre.8 _ some (omega arith) field.kept);
-      kept = pre.11;
-      words = λ z. absurd (some (sym (ap (λ u. u.number) c.refused_after.ensures) ∙ z));
-    }
-
-pub offset_bounds-words-p : goal.offset_bounds-words-p
-offset_bounds-words-p c = omega (arith, (c.read_field-field.ensures.judged.known (omega arith)).few)
-
-pub bounds-words-p : goal.bounds-words-p
-bounds-words-p c = (c.read_field-field.ensures.judged.known (omega arith)).few
-
-pub offset_bounds-offsets-p : goal.offset_bounds-offsets-p
-offset_bounds-offsets-p c = omega (arith, (c.read_field-field.ensures.judged.known (omega arith)).few)
-
-pub bounds-offsets-p : goal.bounds-offsets-p
-bounds-offsets-p c = (c.read_field-field.ensures.judged.known (omega arith)).few
+pub returns-in-Err-clause-read : goal.returns-in-Err-clause-read
+returns-in-Err-clause-read c = let field = c.in-Err.ensures in production_refused _ _ _ _ _ _ _ _ _ _ _ _ _ field.judged c.requires.8 _ _ refl (omega arith) field.kept
 
 pub read_body-requires : goal.read_body-requires
 read_body-requires c =
-    let field = c.read_field-field.ensures in
-    let known = field.judged.known (omega (arith, c.if-field-ne0.false)) in
-    (known.long, small_body _ _ _ _ _ _ _ _ known c.requires.4, c.requires.5, c.requires.6, c.requires.9, c.requires.10, field.placed (omega (arith, c.if-field-ne0.false)))
+    let field = c.in-Ok.ensures in
+    let known = field.judged.known refl in
+    (known.long, small_body _ _ _ _ _ _ _ _ known c.requires.4, c.requires.5, c.requires.6, c.requires.9, c.requires.10, field.placed)
 
-pub returns : goal.returns
-returns c =
-    let field = c.read_field-field.ensures in
-    let known = field.judged.known (omega (arith, c.if-field-ne0.false)) in
-    let copied = field.copied (omega (arith, c.if-field-ne0.false)) in record {
-      read = production_read _ _ _ _ _ _ _ _ _ _ _ _ _ field.judged c.requires.8 (omega (arith, c.if-field-ne0.false)) _ _ refl copied _ c.read_body.ensures.read c.read_body.ensures.next c.read_body.ensures.inside;
-      kept = simp length-set c.requires.11;
-      words = λ z. rights_read _ _ _ _ _ known _ refl _ _ c.requires.7 copied _ _ (field.worded (omega (arith, c.if-field-ne0.false)));
-    }
+pub returns-in-Ok-read_body-clause-read : goal.returns-in-Ok-read_body-clause-read
+returns-in-Ok-read_body-clause-read c =
+    let field = c.in-Ok.ensures in
+    let body = c.in-Ok-read_body.ensures in
+    production_read _ _ _ _ _ _ _ _ _ _ _ _ _ field.judged c.requires.8 refl _ _ refl field.copied _ body.read body.next body.inside
+
+pub returns-in-Ok-read_body-clause-words : goal.returns-in-Ok-read_body-clause-words
+returns-in-Ok-read_body-clause-words c =
+    let field = c.in-Ok.ensures in
+    rights_read _ _ _ _ _ (field.judged.known refl) _ refl _ _ c.requires.7 field.copied _ _ field.worded
+
+pub returns-in-Err-read_body-clause-read : goal.returns-in-Err-read_body-clause-read
+returns-in-Err-read_body-clause-read c =
+    let field = c.in-Ok.ensures in
+    let body = c.in-Err-read_body.ensures in
+    production_stopped _ _ _ _ _ _ _ _ _ _ _ _ _ field.judged c.requires.8 refl _ _ refl field.copied _ body.read body.inside

@@ -20,8 +20,8 @@ returns-in_default c =
 pub returns : goal.returns
 returns c =
     let b = c.args.buffer.now in
-    let f = c.in-Kept.found in
-    let w = checked_kept b (pos 0) c.check.ensures c.in-Kept.is in
+    let f = c.in-Some.found in
+    let w = checked_kept b (pos 0) c.check.ensures c.in-Some.is in
     let t : to_z w64 (of_z w64 f.total) ≡ f.total = search rules in
     let l : to_z w64 (of_z w64 f.largest) ≡ f.largest = search rules in
     c.standing.ensures

@@ -29,15 +29,15 @@ returns-in_default c =
 
 pub slice_bounds-push-end : goal.slice_bounds-push-end
 slice_bounds-push-end c =
-    let w = checked_kept c.args.buffer.now (to_z w64 (of_z w64 c.args.value)) c.check.ensures c.in-Kept.is in
+    let w = checked_kept c.args.buffer.now (to_z w64 (of_z w64 c.args.value)) c.check.ensures c.in-Some.is in
     sym w.leaders.long
 
 pub push-requires : goal.push-requires
 push-requires c =
     let b = c.args.buffer.now in
     let v = to_z w64 (of_z w64 c.args.value) in
-    let w = checked_kept b v c.check.ensures c.in-Kept.is in
-    (brought b w.kept v c.in-Kept.found c.check.new.leaders w, sym c.in_range.ensures ∙ c.if-not-in_range.false)
+    let w = checked_kept b v c.check.ensures c.in-Some.is in
+    (brought b w.kept v c.in-Some.found c.check.new.leaders w, sym c.in_range.ensures ∙ c.if-not-in_range.false)
 
 pub returns : goal.returns
 returns c =

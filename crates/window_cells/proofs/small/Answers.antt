@@ -27,8 +27,8 @@ returns-then-in_bounds c =
     let t = small_in s.args.v (tested c) in
     rw (to_z-of_z s.ranges.v) (t.1, omega (arith, t.2))
 
-pub returns : goal.returns
-returns c =
+pub returns-else-in_bounds : goal.returns-else-in_bounds
+returns-else-in_bounds c =
     let s = c.before.before in
     let t : (le_z (pos 0) s.args.v && le_z s.args.v (pos window_limit)) ≡ false = sym (c.in_bounds.ensures ∙ ap (λ z. le_z (pos 0) z && le_z z (pos window_limit)) (to_z-of_z s.ranges.v)) ∙ c.if-in_bounds.false in
     (small_out s.args.v t, omega arith)

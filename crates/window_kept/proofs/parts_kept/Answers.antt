@@ -1,12 +1,11 @@
 use native.Mathlib.Omega.{arith}
 use mathlib.Core.Path.{◌≡◌, sym, ◌∙◌}
-use mathlib.Core.Bool.{true}
 use lib.ListN.{get_or}
 use lib.IntN.{pos}
 use mir.Syntax.{w64}
-use mir.Val.{to_z, of_z}
-use borrow.Author.Rules.{sfits_of}
-use Rattle.meaning_window.specs.Window.{place_fits}
+use mir.Val.{to_z, of_z, SFits}
+use mir.Facts.{to_z-of_z}
+use borrow.Author.Rules.{rules}
 use Rattle.window_cells.specs.Signed.{back}
 use Rattle.window_found.specs.Checking.{place_not, count_not, rest_not, values_by, window_part}
 use Rattle.window_kept.proofs.parts_kept.Goals as goal
@@ -67,4 +66,4 @@ returns c =
     let v : to_z w64 (of_z w64 s.args.value) ≡ s.args.value = back s.args.value s.ranges.value in
     values_by s.args.buffer.now s.args.value c.walk_back.new.leaders s.args.size s.requires.0 s.requires.1 h.result k.result h.ensures.0 k.ensures.0 (sym c.place_fits.ensures ∙ c.if-not-place_fits.false) q.result q.ensures.0 (omega arith)
     (sym z.rest_zero.ensures ∙ z.if-not-rest_zero.false) _
-    (back (get_or s.args.buffer.now 3 (pos 0)) (sfits_of c.total-1.given)) (rw v at c.walk_back.ensures)
+    (let f : SFits w64 (get_or s.args.buffer.now 3 (pos 0)) = search rules in to_z-of_z f) (rw v at c.walk_back.ensures)

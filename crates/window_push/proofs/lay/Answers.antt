@@ -1,3 +1,4 @@
+use borrow.Author.Rules.{rules}
 use native.Mathlib.Omega.{arith}
 use lib.ListN.{length, length-take}
 use Rattle.window_push.proofs.Renewing.{laid}
@@ -11,5 +12,5 @@ put-requires c = omega (arith, length-take (length c.args.leaders.now) c.args.ar
 
 pub returns : goal.returns
 returns c =
-    let s = c.before.before.before.before.before.before.before.before in
-    laid s.args.area.now s.args.leaders.now c.put.new.cells c.clear.new.cells s.requires c.put.ensures c.clear.ensures
+    let s = c in
+    laid s.args.area.now s.args.leaders.now c.put.new.cells c.fill.new.self s.requires c.put.ensures (search rules)

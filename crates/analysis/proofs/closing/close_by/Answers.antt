@@ -24,7 +24,7 @@ returns-then-lies_in c =
     λ count image lt. rw c.union-then-lies_in.ensures.word
     (closes_new _ image _ lt _ _ _ (rw c.union.ensures.word (knows _ _ pre.sets.0 pre.sets.1)) pre.row.1 _ (c.lies_in.ensures.inside c.if-lies_in.true) (c.of_nonterminal.ensures ∙ ap singleton c.left_of.ensures))
 
-pub returns : goal.returns
-returns c =
+pub returns-else-lies_in : goal.returns-else-lies_in
+returns-else-lies_in c =
     let pre = c.requires in
     λ count image lt. closes_not _ image _ lt _ _ _ (rw c.union.ensures.word (knows _ _ pre.sets.0 pre.sets.1)) pre.row.1 (c.lies_in.ensures.outside c.if-lies_in.false)

@@ -1,25 +1,10 @@
-use Prim.Native.Nat.{◌-◌, ◌<◌}
-use native.Mathlib.Omega.{arith}
-use Rattle.analysis.specs.Rounds.{backward_start, backward_turn, backward_end}
+use Rattle.std.proofs.Common.{arith}
+use Rattle.analysis.specs.Rounds.{backward_turn}
 use Rattle.analysis.specs.Closing.{narrow_grown}
 use Rattle.analysis.proofs.closing.close_round.Goals as goal
 
-pub loop-k-init : goal.loop-k-init
-loop-k-init c = backward_start _
-
-pub overflow_sub-k : goal.overflow_sub-k
-overflow_sub-k c = omega arith
-
-pub close_by-next-requires : goal.close_by-next-requires
-close_by-next-requires c =
-    let lt : c.loop-k.k - 1 < c.args.count = omega arith in
-    record { row = (record { count = _; image = c.requires.0; listed = lt }, c.requires.1.is _ lt); sets = (narrow_grown _ c.requires.0 _ _ c.loop-k.invariant.grown c.requires.2, c.requires.3) }
-
-pub loop-k-smaller : goal.loop-k-smaller
-loop-k-smaller c = omega arith
+pub close_by-next-requires-clause-sets : goal.close_by-next-requires-clause-sets
+close_by-next-requires-clause-sets c = (narrow_grown _ c.requires.0 _ _ c.loop-k.invariant.grown c.requires.2, c.requires.3)
 
 pub loop-k-preserved : goal.loop-k-preserved
 loop-k-preserved c = backward_turn c.loop-k.invariant (c.close_by-next.ensures _ c.requires.0 (omega arith))
-
-pub returns : goal.returns
-returns c = backward_end (omega arith) c.loop-k.invariant

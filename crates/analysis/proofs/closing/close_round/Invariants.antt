@@ -5,6 +5,3 @@ use Rattle.analysis.proofs.closing.close_round.Given as goal
 
 abbrev pub invariant-loop-k : goal.invariant-loop-k
 invariant-loop-k l = Backward (ClosedAt (tokens_in l.free.0) l.rows) l.count l.k l.initial.next.0 l.next.0
-
-abbrev pub decreases-loop-k : goal.decreases-loop-k
-decreases-loop-k l = l.k

@@ -1,10 +1,6 @@
-use Prim.Native.Nat.{◌≤◌, ◌-◌}
 use Rattle.set_words.specs.Views.{members}
 use Rattle.analysis.specs.Fronts.{Gathers, heads_by, leading_by}
 use Rattle.analysis_whole.proofs.first.edges_of.Given as goal
 
 abbrev pub invariant-loop-k : goal.invariant-loop-k
-invariant-loop-k l = (l.k ≤ l.count) × Gathers (heads_by (members l.null.0) l.rows) l.rows l.k l.edges × Gathers (leading_by (members l.null.0) l.rows) l.rows l.k l.sets
-
-abbrev pub decreases-loop-k : goal.decreases-loop-k
-decreases-loop-k l = l.count - l.k
+invariant-loop-k l = Gathers (heads_by (members l.null.0) l.rows) l.rows l.k l.edges × Gathers (leading_by (members l.null.0) l.rows) l.rows l.k l.sets

@@ -13,6 +13,3 @@ invariant-loop-i l =
     × Rest (members l.null.0) l.first l.rows l.k l.i l.rest.0 × Upward (members l.null.0) l.rows l.k l.i l.initial.up.0 l.up.0 × Quiet (members l.null.0) l.first l.quiet l.rest.0 l.up.0 l.table l.edges
     × ((count : ℕ) → Image l.rows count → l.k < count
     → Behind (members l.null.0) l.first l.rows count (λ u. BaseFrom (members l.null.0) l.first l.rows u l.k l.i) (EdgeFrom (members l.null.0) l.rows l.k l.i) l.initial.table l.initial.edges l.table l.edges)
-
-abbrev pub decreases-loop-i : goal.decreases-loop-i
-decreases-loop-i l = l.i

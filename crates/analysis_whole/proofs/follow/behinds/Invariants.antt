@@ -1,11 +1,7 @@
-use Prim.Native.Nat.{◌≤◌, ◌-◌}
 use Rattle.set_words.specs.Views.{members}
 use Rattle.analysis.specs.Follows.{BasesTo, EdgesTo, Behind}
 use Rattle.analysis_whole.proofs.follow.behinds.Given as goal
 
 abbrev pub invariant-loop-k : goal.invariant-loop-k
 invariant-loop-k l =
-    (l.k ≤ l.count) × Behind (members l.null.0) l.first l.rows l.count (BasesTo (members l.null.0) l.first l.rows l.k) (EdgesTo (members l.null.0) l.rows l.k) l.initial.table l.initial.edges l.table l.edges
-
-abbrev pub decreases-loop-k : goal.decreases-loop-k
-decreases-loop-k l = l.count - l.k
+    Behind (members l.null.0) l.first l.rows l.count (BasesTo (members l.null.0) l.first l.rows l.k) (EdgesTo (members l.null.0) l.rows l.k) l.initial.table l.initial.edges l.table l.edges

@@ -1,4 +1,3 @@
-use Prim.Native.Nat.{◌≤◌, ◌-◌}
 use lib.ListN.{length}
 use mathlib.Core.Path.{◌≡◌}
 use Rattle.meaning.specs.Limits.{nonterminals_limit}
@@ -7,7 +6,4 @@ use Rattle.analysis.specs.Spreading.{Spreading}
 use Rattle.analysis_whole.proofs.spreading.spread.Given as goal
 
 abbrev pub invariant-loop-k : goal.invariant-loop-k
-invariant-loop-k l = (l.k ≤ l.n) × (length l.edges ≡ nonterminals_limit) × (length l.sets ≡ nonterminals_limit) × (Short l.n l.initial.edges → Short l.n l.initial.sets → Spreading l.n l.used.0 l.initial.edges l.initial.sets l.edges l.sets l.k)
-
-abbrev pub decreases-loop-k : goal.decreases-loop-k
-decreases-loop-k l = l.n - l.k
+invariant-loop-k l = (length l.edges ≡ nonterminals_limit) × (length l.sets ≡ nonterminals_limit) × (Short l.n l.initial.edges → Short l.n l.initial.sets → Spreading l.n l.used.0 l.initial.edges l.initial.sets l.edges l.sets l.k)

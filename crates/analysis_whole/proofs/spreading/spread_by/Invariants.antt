@@ -1,9 +1,6 @@
-use Prim.Native.Nat.{◌-◌, ◌≤◌}
+use Rattle.std.proofs.Common.{◌*◌}
 use Rattle.analysis.specs.Spreading.{Turned}
 use Rattle.analysis_whole.proofs.spreading.spread_by.Given as goal
 
-abbrev pub invariant-loop-i : goal.invariant-loop-i
-invariant-loop-i l = (l.i ≤ l.n) × Turned l.k l.initial.edges l.initial.edges l.edges l.i × Turned l.k l.initial.edges l.initial.sets l.sets l.i
-
-abbrev pub decreases-loop-i : goal.decreases-loop-i
-decreases-loop-i l = l.n - l.i
+abbrev pub invariant-loop-pair : goal.invariant-loop-pair
+invariant-loop-pair l = Turned l.k l.initial.edges l.initial.edges l.edges (2 * l.pair) × Turned l.k l.initial.edges l.initial.sets l.sets (2 * l.pair)

@@ -1,11 +1,7 @@
-use Prim.Native.Nat.{◌≤◌, ◌-◌}
 use Rattle.set_words.specs.Views.{members}
 use Rattle.set_words.specs.Growth.{SetsTo}
 use Rattle.analysis.specs.Starts.{starts_by}
 use Rattle.analysis_whole.proofs.starts.all_starts.Given as goal
 
 abbrev pub invariant-loop-k : goal.invariant-loop-k
-invariant-loop-k l = (l.k ≤ l.count) × SetsTo (starts_by (members l.null.0) l.first l.follow l.rows) l.k l.sets
-
-abbrev pub decreases-loop-k : goal.decreases-loop-k
-decreases-loop-k l = l.count - l.k
+invariant-loop-k l = SetsTo (starts_by (members l.null.0) l.first l.follow l.rows) l.k l.sets

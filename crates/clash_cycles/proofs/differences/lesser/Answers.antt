@@ -12,9 +12,9 @@ returns-then-b-a c =
     let t : lt_z s.b s.a ≡ true = sym (search rules) ∙ c.if-b-a.true in
     rw t (search rules)
 
-pub returns : goal.returns
+pub returns-else-b-a : goal.returns-else-b-a
 unfolding lesser
-returns c =
+returns-else-b-a c =
     let s = c.args in
     let t : lt_z s.b s.a ≡ false = sym (search rules) ∙ c.if-b-a.false in
     rw t (search rules)

@@ -11,7 +11,7 @@ returns-then-ends c =
     let a = c.args in
     let m = stacks_of a.registers.now a.places.now in
     let f = c.call_cells-handed in
-    let r = c.alone-alone in
+    let r = c.alone in
     let x = call_is a.call a.kinds.now a.values.now in
     let vs = c.clear_registers in
     let ps = c.clear_places in
@@ -27,7 +27,7 @@ returns c =
     let a = c.args in
     let m = stacks_of a.registers.now a.places.now in
     let f = c.call_cells-handed in
-    let r = c.alone-alone in
+    let r = c.alone in
     let x = call_is a.call a.kinds.now a.values.now in
     let q = c.ends in
     λ g s. goes_on_is a.call a.kinds.now a.values.now a.outer a.inner m f.result f.new.registers f.new.places (call_of g (alone (state_is a.inner)) m (engine_call x))

@@ -1,25 +1,19 @@
-use Rattle.std.proofs.Common.{◌≡◌, ℕ, ◌<◌, pos, ◌-ℤ◌, refl, ap, ◌∙◌, arith, to_z-of_z, w64, SFits, to_z}
-use Rattle.theory_judge.specs.Longs.{long_at}
-use Rattle.theory_judge.specs.Biased.{near_at, far_at}
-use Rattle.judge_nodes.proofs.numbers.long_at.Goals.{Else-biased-ge9223372036854775808}
+use Rattle.std.proofs.Common.{◌≡◌, ℕ, ◌<◌, ap, sym, ◌∙◌, arith, rules, SFits, to_z, to_z-of_z, lt-ltb, le-ltb}
+use Rattle.std.proofs.Math.Decide.{dec_lt}
+use Rattle.std.proofs.Math.IntN.{negsuc}
+use Rattle.std.specs.Int.{w64}
+use Rattle.theory_judge.specs.Longs.{long_at, long_of, long_low, long_high}
 use Rattle.judge_nodes.proofs.numbers.long_at.Goals as goal
 
-close : (c : Else-biased-ge9223372036854775808)
-    → let a = c.args in
-    (pos c.wrapping_add_u64-biased.result -ℤ pos 4611686018427387904 ≡ long_at a.bytes.now a.at) × SFits w64 (long_at a.bytes.now a.at)
-close c = near_at _ _ _ _ (omega arith) c.bits_at.ensures c.wrapping_add_u64-biased.ensures.value (omega arith)
-
-small_back : (n : ℕ) → n < 9223372036854775808 → to_z w64 n ≡ pos n
-small_back n l = to_z-of_z {w = w64} {z = pos n} (record { sfits = omega arith })
-
-difference : (c : Else-biased-ge9223372036854775808) → to_z w64 c.wrapping_add_u64-biased.result -ℤ pos 4611686018427387904 ≡ long_at c.args.bytes.now c.args.at
-difference c = ap (λ z. z -ℤ pos 4611686018427387904) (small_back c.wrapping_add_u64-biased.result (omega arith)) ∙ (close c).0
-
-pub returns-then-biased-ge9223372036854775808 : goal.returns-then-biased-ge9223372036854775808
-returns-then-biased-ge9223372036854775808 c = far_at _ _ _ _ (omega arith) c.bits_at.ensures c.wrapping_add_u64-biased.ensures.value c.if-biased-ge9223372036854775808.true
-
-pub overflow_sub-result : goal.overflow_sub-result
-overflow_sub-result c = rw (difference c) (close c).1
+cast : (n : ℕ) → to_z w64 n ≡ long_of n
+cast n = go (dec_lt n 9223372036854775808)
+  where
+    go : Dec (n < 9223372036854775808) → to_z w64 n ≡ long_of n
+    go (yes l) = rw (lt-ltb n 9223372036854775808 l) (sym (long_low n l))
+    go (no l) = rw (le-ltb n 9223372036854775808 (omega arith)) (ap negsuc (omega arith) ∙ sym (long_high n (omega arith)))
 
 pub returns : goal.returns
-returns c = rw (difference c, to_z-of_z (close c).1) refl
+unfolding long_at
+returns c =
+    let f : SFits w64 c.cast_signed.result = search rules in
+    to_z-of_z f ∙ (c.cast_signed.ensures ∙ (cast c.bits_at.result ∙ ap long_of c.bits_at.ensures))

@@ -1,19 +1,18 @@
 use Rattle.std.proofs.Common.{◌≡◌, sym, ap, ◌∙◌, subst₂, arith}
 use Rattle.program_block_words.specs.Fields.{Listed}
-use Rattle.program_words.specs.Fields.{fields_at, fields_from, stretch_end}
-use Rattle.outline.specs.Images.{row_count}
+use Rattle.program_words.specs.Fields.{fields_at, stretch_end}
 use Rattle.theory_judge.specs.Holding.{listed_true}
 use Rattle.theory_judge.specs.Marks.{read_at}
 use Rattle.judge_nodes.proofs.parts.holds.Goals as goal
 
-pub slice_bounds-fields-count : goal.slice_bounds-fields-count
-slice_bounds-fields-count c = omega (arith, c.fields_from-from.ensures, c.stretch_end-to.ensures ∙ ap (λ n. stretch_end c.args.table.now c.args.offsets.now n c.args.p) c.row_count.ensures)
+pub slice_bounds-fields_hold-count : goal.slice_bounds-fields_hold-count
+slice_bounds-fields_hold-count c = omega (arith, c.fields_from-from.ensures, c.stretch_end-to.ensures ∙ ap (λ n. stretch_end c.args.table.now c.args.offsets.now n c.args.p) c.row_count.ensures)
 
-pub slice_bounds-fields-start : goal.slice_bounds-fields-start
-slice_bounds-fields-start c = omega (arith, c.fields_from-from.ensures, c.stretch_end-to.ensures ∙ ap (λ n. stretch_end c.args.table.now c.args.offsets.now n c.args.p) c.row_count.ensures)
+pub slice_bounds-fields_hold-start : goal.slice_bounds-fields_hold-start
+slice_bounds-fields_hold-start c = omega (arith, c.fields_from-from.ensures, c.stretch_end-to.ensures ∙ ap (λ n. stretch_end c.args.table.now c.args.offsets.now n c.args.p) c.row_count.ensures)
 
-pub slice_bounds-fields-end : goal.slice_bounds-fields-end
-slice_bounds-fields-end c = omega (arith, c.stretch_end-to.ensures ∙ ap (λ n. stretch_end c.args.table.now c.args.offsets.now n c.args.p) c.row_count.ensures)
+pub slice_bounds-fields_hold-end : goal.slice_bounds-fields_hold-end
+slice_bounds-fields_hold-end c = omega (arith, c.stretch_end-to.ensures ∙ ap (λ n. stretch_end c.args.table.now c.args.offsets.now n c.args.p) c.row_count.ensures)
 
 pub fields_hold-requires : goal.fields_hold-requires
 fields_hold-requires c =

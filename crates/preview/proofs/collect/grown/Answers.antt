@@ -11,5 +11,5 @@ returns-then-passed c =
     c.union.ensures.set ∙ (ap (λ z. set_of a.set.0 ∪ z) c.of_token.ensures ∙ ap (grown_by (set_of a.set.0) a.token) (sym c.if-passed.true))
 
 -- src/collect.rt:41:1
-pub returns : goal.returns
-returns c = let a = c.args in ap (grown_by (set_of a.set.0) a.token) (sym c.if-passed.false)
+pub returns-else-passed : goal.returns-else-passed
+returns-else-passed c = let a = c.args in ap (grown_by (set_of a.set.0) a.token) (sym c.if-passed.false)

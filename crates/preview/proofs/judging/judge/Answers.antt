@@ -1,47 +1,39 @@
-use mathlib.Core.Path.{refl, sym, ◌∙◌}
 use native.Mathlib.Omega.{arith}
+use borrow.Author.Rules.{rules}
+use mathlib.Core.Path.{◌≡◌, sym, ap, ◌∙◌}
+use Rattle.std.specs.Prelude.{Ok, Err}
 use Rattle.meaning.specs.PublicCalls.{stacks_of}
+use Rattle.refusals.specs.Numbers.{refusal_or_zero}
 use Rattle.records.specs.Records.{state_is}
-use Rattle.preview.specs.judging.Judging.{copy_turned, copy_short, copy_on, short_registers, short_places, not_short}
+use Rattle.run_lent.specs.Judging.{refused_number}
+use Rattle.preview.specs.judging.Judging.{copy_turned, copy_short, copy_on}
 use Rattle.preview.proofs.judging.judge.Goals as goal
 
--- src/cells.rt:44:9
-pub returns-then-number-ne0 : goal.returns-then-number-ne0
-returns-then-number-ne0 c =
+pub returns-in_err-judge_cells : goal.returns-in_err-judge_cells
+returns-in_err-judge_cells c =
     let a = c.args in
     let r = state_is a.brought in
     let m = stacks_of a.registers.now a.places.now in
     let s = stacks_of a.scratch_registers.now a.scratch_places.now in
-    λ g x. copy_turned g r m s c.judge_cells-number.result (c.judge_cells-number.ensures g x) c.if-number-ne0.true
+    let made : c.from_residual.result ≡ Err c.in_err-judge_cells.field-0.0 = search rules in
+    let was : c.judge_cells.result ≡ Err c.in_err-judge_cells.field-0.0 = search rules in
+    let n = ap refusal_or_zero made in
+    λ g x. copy_turned g r m s (refusal_or_zero c.from_residual.result) (n ∙ (sym (ap refusal_or_zero was) ∙ c.judge_cells.ensures g x)) (λ z. omega (arith, z, n, refused_number c.in_err-judge_cells.field-0.0))
 
--- src/cells.rt:47:9
-pub returns-then-scratch_registers-smaller : goal.returns-then-scratch_registers-smaller
-returns-then-scratch_registers-smaller c =
+pub returns-then-is_short : goal.returns-then-is_short
+returns-then-is_short c =
     let a = c.args in
     let r = state_is a.brought in
     let m = stacks_of a.registers.now a.places.now in
     let s = stacks_of a.scratch_registers.now a.scratch_places.now in
-    λ g x. copy_short g r m s (sym (c.judge_cells-number.ensures g x) ∙ c.if-number-ne0.false)
-    (short_registers a.registers.now a.scratch_registers.now a.places.now a.scratch_places.now c.smaller.result _ c.smaller.ensures refl c.if-scratch_registers-smaller.true)
+    let admitted : c.judge_cells.result ≡ Ok c.in_ok-judge_cells.field-0 = search rules in
+    λ g x. copy_short g r m s (sym (c.judge_cells.ensures g x) ∙ ap refusal_or_zero admitted) (sym c.is_short.ensures ∙ c.if-is_short.true)
 
--- src/cells.rt:50:9
-pub returns-then-scratch_places-smaller : goal.returns-then-scratch_places-smaller
-returns-then-scratch_places-smaller c =
+pub returns-else-is_short : goal.returns-else-is_short
+returns-else-is_short c =
     let a = c.args in
     let r = state_is a.brought in
     let m = stacks_of a.registers.now a.places.now in
     let s = stacks_of a.scratch_registers.now a.scratch_places.now in
-    λ g x. copy_short g r m s (sym (c.judge_cells-number.ensures g x) ∙ c.if-number-ne0.false)
-    (short_places a.registers.now a.scratch_registers.now a.places.now a.scratch_places.now c.smaller.result c.smaller-2.result c.smaller.ensures
-    c.smaller-2.ensures (omega (arith, c.if-scratch_registers-smaller.false)) c.if-scratch_places-smaller.true)
-
--- src/cells.rt:31:1
-pub returns : goal.returns
-returns c =
-    let a = c.args in
-    let r = state_is a.brought in
-    let m = stacks_of a.registers.now a.places.now in
-    let s = stacks_of a.scratch_registers.now a.scratch_places.now in
-    λ g x. copy_on g r m s (sym (c.judge_cells-number.ensures g x) ∙ c.if-number-ne0.false)
-    (not_short a.registers.now a.scratch_registers.now a.places.now a.scratch_places.now c.smaller.result c.smaller-2.result c.smaller.ensures
-    c.smaller-2.ensures (omega (arith, c.if-scratch_registers-smaller.false)) (omega (arith, c.if-scratch_places-smaller.false)))
+    let admitted : c.judge_cells.result ≡ Ok c.in_ok-judge_cells.field-0 = search rules in
+    λ g x. copy_on g r m s (sym (c.judge_cells.ensures g x) ∙ ap refusal_or_zero admitted) (sym c.is_short.ensures ∙ c.if-is_short.false)

@@ -11,18 +11,18 @@ use Rattle.preview.specs.scratch.Scratch.{registers_inside, places_inside, scrat
 use Rattle.preview.proofs.scratch.attempt.Goals as goal
 
 -- src/scratch.rt:61:5
-pub copy_registers-requires : goal.copy_registers-requires
-copy_registers-requires c = let p = c.requires in (registers_inside p.0, scratch_registers_inside p.0 p.1)
+pub copy-requires : goal.copy-requires
+copy-requires c = let p = c.requires in (registers_inside p.0, scratch_registers_inside p.0 p.1)
 
 -- src/scratch.rt:62:5
-pub copy_places-requires : goal.copy_places-requires
-copy_places-requires c = let p = c.requires in (places_inside p.0, scratch_places_inside p.0 p.1)
+pub copy-requires-2 : goal.copy-requires-2
+copy-requires-2 c = let p = c.requires in (places_inside p.0, scratch_places_inside p.0 p.1)
 
 -- src/scratch.rt:65:9
 pub feed-ended-requires : goal.feed-ended-requires
 feed-ended-requires c =
     let p = c.requires in
-    (running_copied p.0 p.1 _ _ c.copy_registers.ensures c.copy_places.ensures, refl)
+    (running_copied p.0 p.1 _ _ c.copy.ensures c.copy-2.ensures, refl)
 
 -- src/scratch.rt:67:27
 pub slice_bounds-clear_registers-end : goal.slice_bounds-clear_registers-end
@@ -32,7 +32,7 @@ slice_bounds-clear_registers-end c =
     let e : to_z w32 (of_z w32 a.value) ≡ a.value = to_z-of_z c.ranges.value in
     let fed : Feeds a.program.now (a.kind ∷ []) (a.value ∷ []) a.registers.now a.places.now a.run f.new.registers f.new.places f.result =
     subst (λ z. Feeds a.program.now (a.kind ∷ []) (z ∷ []) a.registers.now a.places.now a.run f.new.registers f.new.places f.result) e
-    (fed_copied c.requires.0 c.requires.1 _ _ c.copy_registers.ensures c.copy_places.ensures a.kind (to_z w32 (of_z w32 a.value)) f.new.registers f.new.places f.result f.ensures) in
+    (fed_copied c.requires.0 c.requires.1 _ _ c.copy.ensures c.copy-2.ensures a.kind (to_z w32 (of_z w32 a.value)) f.new.registers f.new.places f.result f.ensures) in
     omega (arith, ap (λ (z : Run). z.registers) c.reached-last.ensures, registers_reached c.requires.0 c.args.kind c.args.value f.new.registers f.new.places f.result fed)
 
 -- src/scratch.rt:67:27
@@ -43,7 +43,7 @@ slice_bounds-clear_registers-end-2 c =
     let e : to_z w32 (of_z w32 a.value) ≡ a.value = to_z-of_z c.ranges.value in
     let fed : Feeds a.program.now (a.kind ∷ []) (a.value ∷ []) a.registers.now a.places.now a.run f.new.registers f.new.places f.result =
     subst (λ z. Feeds a.program.now (a.kind ∷ []) (z ∷ []) a.registers.now a.places.now a.run f.new.registers f.new.places f.result) e
-    (fed_copied c.requires.0 c.requires.1 _ _ c.copy_registers.ensures c.copy_places.ensures a.kind (to_z w32 (of_z w32 a.value)) f.new.registers f.new.places f.result f.ensures) in
+    (fed_copied c.requires.0 c.requires.1 _ _ c.copy.ensures c.copy-2.ensures a.kind (to_z w32 (of_z w32 a.value)) f.new.registers f.new.places f.result f.ensures) in
     sym (length-take-le _ _ (omega (arith, ap (λ (z : Run). z.registers) c.reached-last.ensures, registers_reached c.requires.0 c.args.kind c.args.value f.new.registers f.new.places f.result fed)))
 
 -- src/scratch.rt:68:24
@@ -54,7 +54,7 @@ slice_bounds-clear_places-end c =
     let e : to_z w32 (of_z w32 a.value) ≡ a.value = to_z-of_z c.ranges.value in
     let fed : Feeds a.program.now (a.kind ∷ []) (a.value ∷ []) a.registers.now a.places.now a.run f.new.registers f.new.places f.result =
     subst (λ z. Feeds a.program.now (a.kind ∷ []) (z ∷ []) a.registers.now a.places.now a.run f.new.registers f.new.places f.result) e
-    (fed_copied c.requires.0 c.requires.1 _ _ c.copy_registers.ensures c.copy_places.ensures a.kind (to_z w32 (of_z w32 a.value)) f.new.registers f.new.places f.result f.ensures) in
+    (fed_copied c.requires.0 c.requires.1 _ _ c.copy.ensures c.copy-2.ensures a.kind (to_z w32 (of_z w32 a.value)) f.new.registers f.new.places f.result f.ensures) in
     omega (arith, ap (λ (z : Run). z.places) c.reached-last.ensures, places_reached c.requires.0 c.args.kind c.args.value f.new.registers f.new.places f.result fed)
 
 -- src/scratch.rt:68:24
@@ -65,7 +65,7 @@ slice_bounds-clear_places-end-2 c =
     let e : to_z w32 (of_z w32 a.value) ≡ a.value = to_z-of_z c.ranges.value in
     let fed : Feeds a.program.now (a.kind ∷ []) (a.value ∷ []) a.registers.now a.places.now a.run f.new.registers f.new.places f.result =
     subst (λ z. Feeds a.program.now (a.kind ∷ []) (z ∷ []) a.registers.now a.places.now a.run f.new.registers f.new.places f.result) e
-    (fed_copied c.requires.0 c.requires.1 _ _ c.copy_registers.ensures c.copy_places.ensures a.kind (to_z w32 (of_z w32 a.value)) f.new.registers f.new.places f.result f.ensures) in
+    (fed_copied c.requires.0 c.requires.1 _ _ c.copy.ensures c.copy-2.ensures a.kind (to_z w32 (of_z w32 a.value)) f.new.registers f.new.places f.result f.ensures) in
     sym (length-take-le _ _ (omega (arith, ap (λ (z : Run). z.places) c.reached-last.ensures, places_reached c.requires.0 c.args.kind c.args.value f.new.registers f.new.places f.result fed)))
 
 -- src/scratch.rt:48:1
@@ -76,7 +76,7 @@ returns c =
     let e : to_z w32 (of_z w32 a.value) ≡ a.value = to_z-of_z c.ranges.value in
     let fed : Feeds a.program.now (a.kind ∷ []) (a.value ∷ []) a.registers.now a.places.now a.run f.new.registers f.new.places f.result =
     subst (λ z. Feeds a.program.now (a.kind ∷ []) (z ∷ []) a.registers.now a.places.now a.run f.new.registers f.new.places f.result) e
-    (fed_copied c.requires.0 c.requires.1 _ _ c.copy_registers.ensures c.copy_places.ensures a.kind (to_z w32 (of_z w32 a.value)) f.new.registers f.new.places f.result f.ensures) in
+    (fed_copied c.requires.0 c.requires.1 _ _ c.copy.ensures c.copy-2.ensures a.kind (to_z w32 (of_z w32 a.value)) f.new.registers f.new.places f.result f.ensures) in
     let clear_places = c.clear_places in
     let clear_registers = c.clear_registers in
     let reached = c.reached-last in (

@@ -15,18 +15,18 @@ returns-then-not-expected c =
     let e = c.expected in
     (passes_none (sym e.ensures ∙ c.if-not-expected.true), c.requires.1)
 
-pub returns-in-Stopped : goal.returns-in-Stopped
-returns-in-Stopped c =
+pub returns-in-Ok : goal.returns-in-Ok
+returns-in-Ok c =
     let a = c.args in
     let v = to_z w32 (of_z w32 a.value) in
     let e : v ≡ a.value = to_z-of_z c.ranges.value in
     let t = c.attempt.ensures in
-    (subst (λ z. PassesAs a.program.now a.kind z a.registers.now a.places.now a.run true) e (passes_stopped t.0 _ c.in-Stopped.is), t.1)
+    (subst (λ z. PassesAs a.program.now a.kind z a.registers.now a.places.now a.run true) e (passes_stopped t.0 _ c.in-Ok.is), t.1)
 
-pub returns-in-Failed : goal.returns-in-Failed
-returns-in-Failed c =
+pub returns-in-Err : goal.returns-in-Err
+returns-in-Err c =
     let a = c.args in
     let v = to_z w32 (of_z w32 a.value) in
     let e : v ≡ a.value = to_z-of_z c.ranges.value in
     let t = c.attempt.ensures in
-    (subst (λ z. PassesAs a.program.now a.kind z a.registers.now a.places.now a.run false) e (passes_failed t.0 _ _ c.in-Failed.is), t.1)
+    (subst (λ z. PassesAs a.program.now a.kind z a.registers.now a.places.now a.run false) e (passes_failed t.0 _ c.in-Err.is), t.1)

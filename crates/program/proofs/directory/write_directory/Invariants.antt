@@ -9,7 +9,4 @@ use Rattle.program_words.specs.Sections as S
 use Rattle.program.proofs.directory.write_directory.Given as goal
 
 abbrev pub invariant-loop-p : goal.invariant-loop-p
-invariant-loop-p l = (l.p ≤ l.count) × ((old : List ℕ) → area_length ≤ length old → l.initial.area ≡ patch old 9 (zeros (9 + 64 * l.nonterminals - 9)) → S.DirectoryGo l.rows l.sets l.nonterminals l.count old l.p l.area)
-
-abbrev pub decreases-loop-p : goal.decreases-loop-p
-decreases-loop-p l = l.p
+invariant-loop-p l = (old : List ℕ) → area_length ≤ length old → l.initial.area ≡ patch old 9 (zeros (9 + 64 * l.nonterminals - 9)) → S.DirectoryGo l.rows l.sets l.nonterminals l.count old l.p l.area

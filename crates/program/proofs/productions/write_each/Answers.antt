@@ -32,41 +32,33 @@ pub loop-p-init : goal.loop-p-init
 loop-p-init c =
     let pre = c.requires in
     let n = L.numbers_small pre.0.outline in
-    (omega arith, refl, omega (arith, n.0), refl, S.productions_start pre.0 pre.1)
+    (refl, omega (arith, n.0), refl, S.productions_start pre.0 pre.1)
 
 pub write_production-body-requires : goal.write_production-body-requires
 write_production-body-requires c =
     let i = c.loop-p.invariant in
     let pre = c.requires in
-    let nodes = subst (LinksFit _) (sym i.3) pre.2 in
-    (S.production_fits pre.0 pre.1 i.4 (omega arith), c.find_nexts-nexts.ensures, nodes)
+    let nodes = subst (LinksFit _) (sym i.2) pre.2 in
+    (S.production_fits pre.0 pre.1 i.3 (omega arith), c.find_nexts-nexts.ensures, nodes)
 
 pub overflow_add-at-in-loop-p : goal.overflow_add-at-in-loop-p
 overflow_add-at-in-loop-p c = omega arith
-
-pub overflow_add-p : goal.overflow_add-p
-overflow_add-p c =
-    let n = L.numbers_small c.requires.0.outline in
-    omega (arith, n.3)
-
-pub loop-p-smaller : goal.loop-p-smaller
-loop-p-smaller c = omega arith
 
 pub loop-p-preserved : goal.loop-p-preserved
 loop-p-preserved c =
     let i = c.loop-p.invariant in
     let pre = c.requires in
-    (omega arith, i.1, S.record_low pre.0 pre.1 i.4 (omega arith), c.write_production-body.ensures.0 ∙ i.3, S.productions_turn pre.0 pre.1 i.4 (omega arith) c.write_production-body.ensures.1)
+    (i.0, S.record_low pre.0 pre.1 i.3 (omega arith), c.write_production-body.ensures.0 ∙ i.2, S.productions_turn pre.0 pre.1 i.3 (omega arith) c.write_production-body.ensures.1)
 
 pub shape_of-links : goal.shape_of-links
-shape_of-links c = c.loop-p.invariant.3
+shape_of-links c = c.loop-p.invariant.2
 
 pub shape_of-area : goal.shape_of-area
 shape_of-area c =
     let pre = c.requires in
-    S.productions_size pre.0 pre.1 c.loop-p.invariant.4
+    S.productions_size pre.0 pre.1 c.loop-p.invariant.3
 
 pub returns : goal.returns
 returns c =
     let pre = c.requires in
-    S.productions_end pre.0 pre.1 c.loop-p.invariant.4 (omega arith)
+    S.productions_end pre.0 pre.1 c.loop-p.invariant.3 (omega arith)

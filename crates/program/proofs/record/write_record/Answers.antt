@@ -18,29 +18,29 @@ overflow_cast-high c = omega (arith, c.set_at-set.ensures.1)
 pub overflow_cast-from : goal.overflow_cast-from
 overflow_cast-from c = omega (arith, c.requires.behind)
 
-pub put_four-half-requires : goal.put_four-half-requires
-put_four-half-requires c = omega (arith, c.requires.room)
+pub put-half-requires : goal.put-half-requires
+put-half-requires c = omega (arith, c.requires.room)
 
-pub overflow_add-from : goal.overflow_add-from
-overflow_add-from c =
+pub overflow_add-scheme : goal.overflow_add-scheme
+overflow_add-scheme c =
     omega (arith, S.scheme_small c.requires _ c.size_of-size.ensures.0)
 
-pub overflow_mul-entries : goal.overflow_mul-entries
-overflow_mul-entries c =
+pub overflow_mul-scheme : goal.overflow_mul-scheme
+overflow_mul-scheme c =
     omega (arith, S.scheme_small c.requires _ c.size_of-size.ensures.0)
 
-pub overflow_add-from-2 : goal.overflow_add-from-2
-overflow_add-from-2 c =
+pub overflow_add-scheme-2 : goal.overflow_add-scheme-2
+overflow_add-scheme-2 c =
     omega (arith, S.scheme_small c.requires _ c.size_of-size.ensures.0)
 
-pub put_four-requires : goal.put_four-requires
-put_four-requires c =
-    omega (arith, c.requires.room, c.put_four-half.ensures.address, wrote_length c.put_four-half.ensures)
+pub put-requires : goal.put-requires
+put-requires c =
+    omega (arith, c.requires.room, c.put-half.ensures.address, wrote_length c.put-half.ensures)
 
 pub shape_of-area : goal.shape_of-area
 shape_of-area c =
-    wrote_length (S.record_written c.requires c.left_of-left.ensures c.size_of-size.ensures.0 c.set_at-set.ensures.0 c.set_at-set.ensures.1 c.put_four-half.ensures c.put_four.ensures)
+    wrote_length (S.record_written c.requires c.left_of-left.ensures c.size_of-size.ensures.0 c.set_at-set.ensures.0 c.set_at-set.ensures.1 c.put-half.ensures c.put.ensures)
 
 pub returns : goal.returns
 returns c =
-    λ x. S.record_written x c.left_of-left.ensures c.size_of-size.ensures.0 c.set_at-set.ensures.0 c.set_at-set.ensures.1 c.put_four-half.ensures c.put_four.ensures
+    λ x. S.record_written x c.left_of-left.ensures c.size_of-size.ensures.0 c.set_at-set.ensures.0 c.set_at-set.ensures.1 c.put-half.ensures c.put.ensures

@@ -49,28 +49,28 @@ head-head-requires c =
     let x = c.requires.0.4 in
     (omega arith, omega (arith, (L.numbers_small x).0, (L.numbers_small x).1, (L.numbers_small x).2, (L.numbers_small x).3, L.start_small x))
 
-pub put_four-next-requires : goal.put_four-next-requires
-put_four-next-requires c = omega (arith, c.requires.1)
+pub put-next-requires : goal.put-next-requires
+put-next-requires c = omega (arith, c.requires.1)
 
-pub put_four-last-requires : goal.put_four-last-requires
-put_four-last-requires c =
-    omega (arith, c.requires.1, c.put_four-next.ensures.address, wrote_length c.put_four-next.ensures)
+pub put-last-requires : goal.put-last-requires
+put-last-requires c =
+    omega (arith, c.requires.1, c.put-next.ensures.address, wrote_length c.put-next.ensures)
 
 pub offset_bounds-area-last : goal.offset_bounds-area-last
 offset_bounds-area-last c =
-    omega (arith, c.requires.1, c.put_four-next.ensures.address, c.put_four-last.ensures.address, wrote_length c.put_four-next.ensures, wrote_length c.put_four-last.ensures)
+    omega (arith, c.requires.1, c.put-next.ensures.address, c.put-last.ensures.address, wrote_length c.put-next.ensures, wrote_length c.put-last.ensures)
 
 pub bounds-area-last : goal.bounds-area-last
 bounds-area-last c =
-    omega (arith, c.requires.1, c.put_four-next.ensures.address, c.put_four-last.ensures.address, wrote_length c.put_four-next.ensures, wrote_length c.put_four-last.ensures)
+    omega (arith, c.requires.1, c.put-next.ensures.address, c.put-last.ensures.address, wrote_length c.put-next.ensures, wrote_length c.put-last.ensures)
 
 pub overflow_add-result : goal.overflow_add-result
 overflow_add-result c =
-    omega (arith, c.requires.1, c.put_four-next.ensures.address, c.put_four-last.ensures.address, wrote_length c.put_four-next.ensures, wrote_length c.put_four-last.ensures)
+    omega (arith, c.requires.1, c.put-next.ensures.address, c.put-last.ensures.address, wrote_length c.put-next.ensures, wrote_length c.put-last.ensures)
 
 pub returns : goal.returns
 returns c =
-    λ table inherited rows offsets x. L.segment_written x c.head-head.ensures c.byte_at-registers.ensures.0 (omega arith) c.put_four-next.ensures c.put_four-last.ensures
+    λ table inherited rows offsets x. L.segment_written x c.head-head.ensures c.byte_at-registers.ensures.0 (omega arith) c.put-next.ensures c.put-last.ensures
 
 pub shape_of-area : goal.shape_of-area
 shape_of-area c =

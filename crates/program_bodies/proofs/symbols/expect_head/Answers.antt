@@ -6,5 +6,5 @@ use Rattle.program_bodies.proofs.symbols.expect_head.Goals as goal
 pub returns-then-symbol-lt128 : goal.returns-then-symbol-lt128
 returns-then-symbol-lt128 c = c.head.ensures ∙ L.head_terminal _ (omega arith)
 
-pub returns : goal.returns
-returns c = c.head-2.ensures ∙ L.head_nonterminal _ (omega arith)
+pub returns-else-symbol-lt128 : goal.returns-else-symbol-lt128
+returns-else-symbol-lt128 c = c.head-else-symbol-lt128.ensures ∙ L.head_nonterminal _ (omega arith)

@@ -51,12 +51,6 @@ pub put-requires : goal.put-requires
 put-requires c =
     omega (arith, c.requires.3, c.loop-i.invariant.3)
 
-pub overflow_add-i : goal.overflow_add-i
-overflow_add-i c = record { fits = omega (arith, c.well_formed.1.1.1.1.1.1.0.0) }
-
-pub loop-i-smaller : goal.loop-i-smaller
-loop-i-smaller c = omega arith
-
 pub loop-i-preserved : goal.loop-i-preserved
 loop-i-preserved c =
     let l = c.loop-i in

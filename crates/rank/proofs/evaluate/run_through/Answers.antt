@@ -13,24 +13,24 @@ pub finish-ended-requires : goal.finish-ended-requires
 finish-ended-requires c =
     let f = c.feed in
     let w = c.word_at in
-    next_running c.requires.1 c.requires.0 w.result w.ensures.0 c.args.kinds.now c.args.values.now f.new.registers f.new.places f.result f.ensures c.in-Stopped.next c.in-Stopped.is
+    next_running c.requires.1 c.requires.0 w.result w.ensures.0 c.args.kinds.now c.args.values.now f.new.registers f.new.places f.result f.ensures c.in-Ok.next c.in-Ok.is
 
 pub finished-requires : goal.finished-requires
 finished-requires c =
     let f = c.feed in
     let w = c.word_at in
     let e = c.finish-ended in
-    next_ending c.requires.1 c.requires.0 w.result w.ensures.0 c.args.kinds.now c.args.values.now f.new.registers f.new.places f.result f.ensures c.in-Stopped.next c.in-Stopped.is e.new.registers e.new.places e.result e.ensures
+    next_ending c.requires.1 c.requires.0 w.result w.ensures.0 c.args.kinds.now c.args.values.now f.new.registers f.new.places f.result f.ensures c.in-Ok.next c.in-Ok.is e.new.registers e.new.places e.result e.ensures
 
-pub returns-in-Stopped : goal.returns-in-Stopped
-returns-in-Stopped c =
+pub returns-in-Ok : goal.returns-in-Ok
+returns-in-Ok c =
     let f = c.feed in
     let w = c.word_at in
     let e = c.finish-ended in
-    finished_ran c.requires.1 c.requires.0 w.result w.ensures.0 c.args.kinds.now c.args.values.now f.new.registers f.new.places f.result f.ensures c.in-Stopped.next c.in-Stopped.is e.new.registers e.new.places e.result e.ensures c.finished.result c.finished.ensures
+    finished_ran c.requires.1 c.requires.0 w.result w.ensures.0 c.args.kinds.now c.args.values.now f.new.registers f.new.places f.result f.ensures c.in-Ok.next c.in-Ok.is e.new.registers e.new.places e.result e.ensures c.finished.result c.finished.ensures
 
-pub returns-in-Failed : goal.returns-in-Failed
-returns-in-Failed c =
+pub returns-in-Err : goal.returns-in-Err
+returns-in-Err c =
     let f = c.feed in
     let w = c.word_at in
-    failed_ran c.requires.1 c.requires.0 w.result w.ensures.0 c.args.kinds.now c.args.values.now f.new.registers f.new.places f.result f.ensures c.in-Failed.last c.in-Failed.number c.fed.result c.in-Failed.is c.fed.ensures
+    failed_ran c.requires.1 c.requires.0 w.result w.ensures.0 c.args.kinds.now c.args.values.now f.new.registers f.new.places f.result f.ensures c.in-Err.failed c.fed.result c.in-Err.is c.fed.ensures

@@ -17,10 +17,10 @@ use Rattle.value.specs.Overflow.{fits64, reach}
 use Rattle.rank_report.proofs.totals.total.Goals as goal
 
 pub loop-i-init : goal.loop-i-init
-loop-i-init c = (omega arith, sym (+ℤ_idl (total_of (entries_of c.args.count c.args.list.now))), omega arith)
+loop-i-init c = (sym (+ℤ_idl (total_of (entries_of c.args.count c.args.list.now))), omega arith)
 
-pub worth_at-v-requires : goal.worth_at-v-requires
-worth_at-v-requires c = omega arith
+pub worth_at-sum-requires : goal.worth_at-sum-requires
+worth_at-sum-requires c = omega arith
 
 -- the total with the entry at hand, which the call has given
 module _ (m : List ℤ) (count : ℕ) (few : count ≤ candidates_limit) (room : 3 * count ≤ length m) (ranged : Ranged (entries_of count m)) (i : ℕ) (g : i < count) (sum : ℤ) (size : nat_abs sum ≤ reach * i) (z : ℤ) (f : SFits w64 z) (e : to_z w64 (of_z w64 z) ≡ worth (entry_at m i)) where
@@ -34,23 +34,17 @@ module _ (m : List ℤ) (count : ℕ) (few : count ≤ candidates_limit) (room :
   sums = rw e (to_z-of_z sum_fits)
 
 pub overflow_add-sum : goal.overflow_add-sum
-overflow_add-sum c = adding c.args.list.now c.args.count c.requires.0 c.requires.1 c.requires.2 c.loop-i.i (omega arith) (to_z w64 c.loop-i.sum-bits) c.loop-i.invariant.2 c.worth_at-v.result (sfits_of c.worth_at-v.type_inv) (to_z-of_z {w = w64} (sfits_of c.worth_at-v.type_inv) ∙ c.worth_at-v.ensures)
-
-pub overflow_add-i : goal.overflow_add-i
-overflow_add-i c = omega arith
-
-pub loop-i-smaller : goal.loop-i-smaller
-loop-i-smaller c = omega arith
+overflow_add-sum c = adding c.args.list.now c.args.count c.requires.0 c.requires.1 c.requires.2 c.loop-i.i (omega arith) (to_z w64 c.loop-i.sum-bits) c.loop-i.invariant.1 c.worth_at-sum.result (sfits_of c.worth_at-sum.type_inv) (to_z-of_z {w = w64} (sfits_of c.worth_at-sum.type_inv) ∙ c.worth_at-sum.ensures)
 
 pub loop-i-preserved : goal.loop-i-preserved
 loop-i-preserved c =
     let l = c.loop-i in
     let s = c in
     let m = s.args.list.now in
-    let e = sums c.args.list.now c.args.count c.requires.0 c.requires.1 c.requires.2 c.loop-i.i (omega arith) (to_z w64 c.loop-i.sum-bits) c.loop-i.invariant.2 c.worth_at-v.result (sfits_of c.worth_at-v.type_inv) (to_z-of_z {w = w64} (sfits_of c.worth_at-v.type_inv) ∙ c.worth_at-v.ensures) in
+    let e = sums c.args.list.now c.args.count c.requires.0 c.requires.1 c.requires.2 c.loop-i.i (omega arith) (to_z w64 c.loop-i.sum-bits) c.loop-i.invariant.1 c.worth_at-sum.result (sfits_of c.worth_at-sum.type_inv) (to_z-of_z {w = w64} (sfits_of c.worth_at-sum.type_inv) ∙ c.worth_at-sum.ensures) in
     let rest = total_of (drop (l.i + 1) (entries_of s.args.count m)) in
-    let more = total_turn m s.args.count s.requires.1 l.i ((to_z w64 l.sum-bits)) (omega arith) l.invariant.1 in
-    (omega arith, more ∙ ap (λ (t : ℤ). t +ℤ rest) (sym e), rw e (omega (arith, nat_abs_add ((to_z w64 l.sum-bits)) (worth (entry_at m l.i)), worth_size m s.args.count s.requires.1 l.i (omega arith) s.requires.2, l.invariant.2)))
+    let more = total_turn m s.args.count s.requires.1 l.i ((to_z w64 l.sum-bits)) (omega arith) l.invariant.0 in
+    (more ∙ ap (λ (t : ℤ). t +ℤ rest) (sym e), rw e (omega (arith, nat_abs_add ((to_z w64 l.sum-bits)) (worth (entry_at m l.i)), worth_size m s.args.count s.requires.1 l.i (omega arith) s.requires.2, l.invariant.1)))
 
 pub returns : goal.returns
-returns c = total_end c.args.list.now c.args.count c.requires.1 c.loop-i.i ((to_z w64 c.loop-i.sum-bits)) (omega arith) c.loop-i.invariant.1
+returns c = total_end c.args.list.now c.args.count c.requires.1 c.loop-i.i ((to_z w64 c.loop-i.sum-bits)) (omega arith) c.loop-i.invariant.0

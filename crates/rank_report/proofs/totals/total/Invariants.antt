@@ -1,4 +1,4 @@
-use Prim.Native.Nat.{◌-◌, ◌*◌, ◌≤◌}
+use Prim.Native.Nat.{◌*◌, ◌≤◌}
 use mathlib.Core.Path.{◌≡◌}
 use lib.ListN.{drop}
 use lib.IntN.{nat_abs, ◌+ℤ◌}
@@ -8,7 +8,4 @@ use Rattle.value.specs.Overflow.{reach}
 use Rattle.rank_report.proofs.totals.total.Given as goal
 
 abbrev pub invariant-loop-i : goal.invariant-loop-i
-invariant-loop-i l = (l.i ≤ l.count) × (total_of (entries_of l.count l.list) ≡ l.sum +ℤ total_of (drop l.i (entries_of l.count l.list))) × (nat_abs (l.sum) ≤ reach * l.i)
-
-abbrev pub decreases-loop-i : goal.decreases-loop-i
-decreases-loop-i l = l.count - l.i
+invariant-loop-i l = (total_of (entries_of l.count l.list) ≡ l.sum +ℤ total_of (drop l.i (entries_of l.count l.list))) × (nat_abs (l.sum) ≤ reach * l.i)

@@ -1,26 +1,12 @@
-use native.Mathlib.Omega.{arith}
-use borrow.Author.Rules.{sfits_of}
+use Rattle.std.proofs.Common.{rules, tests, ◌∙◌}
+use Rattle.std.proofs.lemmas.Iterator.{YieldsList-from_slice}
+use Rattle.std.proofs.lemmas.Iterator.Consumers.{YieldsList-from_copied}
+use Rattle.std.proofs.lemmas.Iterator.Search.{all_from_yields_List}
 use Rattle.meaning.specs.Value.{in_range}
-use Rattle.theory_base.specs.Cells.{cell_passes, cell_fails, all_passed}
+use Rattle.run_fit.proofs.Tests.{list_all_is}
 use Rattle.run_fit.proofs.cells.all_valued.Goals as goal
 
-pub offset_bounds-cells-i : goal.offset_bounds-cells-i
-offset_bounds-cells-i c = omega arith
-
-pub bounds-cells-i : goal.bounds-cells-i
-bounds-cells-i c = omega arith
-
-pub overflow_add-i : goal.overflow_add-i
-overflow_add-i c = omega arith
-
-pub loop-i-smaller : goal.loop-i-smaller
-loop-i-smaller c = omega arith
-
-pub loop-i-preserved : goal.loop-i-preserved
-loop-i-preserved c = let l = c.before.before.before.before in (omega arith, cell_passes in_range l.args.cells.now l.loop-i.i (omega arith) (sfits_of c.v-1.given) c.in_range.ensures l.loop-i.invariant.1 c.if-in_range.true)
-
-pub returns-else-in_range : goal.returns-else-in_range
-returns-else-in_range c = let l = c.before.before.before.before in cell_fails in_range l.args.cells.now l.loop-i.i (omega arith) (sfits_of c.v-1.given) c.in_range.ensures l.loop-i.invariant.1 c.if-in_range.false
-
 pub returns : goal.returns
-returns c = all_passed in_range c.args.cells.now c.loop-i.i (omega arith) c.loop-i.invariant.1
+returns c =
+    all_from_yields_List in_range _ _ c.all.result c.all.ensures.ran (YieldsList-from_copied (YieldsList-from_slice c.args.cells.now cc)) (λ x b q k. search (rules, tests))
+    ∙ list_all_is in_range c.args.cells.now

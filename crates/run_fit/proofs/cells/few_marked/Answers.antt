@@ -1,26 +1,12 @@
-use native.Mathlib.Omega.{arith}
-use borrow.Author.Rules.{sfits_of}
+use Rattle.std.proofs.Common.{rules, tests, ◌∙◌}
+use Rattle.std.proofs.lemmas.Iterator.{YieldsList-from_slice}
+use Rattle.std.proofs.lemmas.Iterator.Consumers.{YieldsList-from_copied}
+use Rattle.std.proofs.lemmas.Iterator.Search.{all_from_yields_List}
 use Rattle.meaning.specs.Calls.{is_mark}
-use Rattle.theory_base.specs.Cells.{cell_passes, cell_fails, all_passed}
+use Rattle.run_fit.proofs.Tests.{list_all_is}
 use Rattle.run_fit.proofs.cells.few_marked.Goals as goal
 
-pub offset_bounds-cells-i : goal.offset_bounds-cells-i
-offset_bounds-cells-i c = omega arith
-
-pub bounds-cells-i : goal.bounds-cells-i
-bounds-cells-i c = omega arith
-
-pub overflow_add-i : goal.overflow_add-i
-overflow_add-i c = omega arith
-
-pub loop-i-smaller : goal.loop-i-smaller
-loop-i-smaller c = omega arith
-
-pub loop-i-preserved : goal.loop-i-preserved
-loop-i-preserved c = let l = c.before.before.before.before in (omega arith, cell_passes is_mark l.args.cells.now l.loop-i.i (omega arith) (sfits_of c.v-1.given) c.is_mark.ensures l.loop-i.invariant.1 c.if-is_mark.true)
-
-pub returns-else-is_mark : goal.returns-else-is_mark
-returns-else-is_mark c = let l = c.before.before.before.before in cell_fails is_mark l.args.cells.now l.loop-i.i (omega arith) (sfits_of c.v-1.given) c.is_mark.ensures l.loop-i.invariant.1 c.if-is_mark.false
-
 pub returns : goal.returns
-returns c = all_passed is_mark c.args.cells.now c.loop-i.i (omega arith) c.loop-i.invariant.1
+returns c =
+    all_from_yields_List is_mark _ _ c.all.result c.all.ensures.ran (YieldsList-from_copied (YieldsList-from_slice c.args.cells.now cc)) (λ x b q k. search (rules, tests))
+    ∙ list_all_is is_mark c.args.cells.now

@@ -30,8 +30,8 @@ returns-then-few_marked c =
     passes_then a.registers.now (first c.before.before.before)
     (stretch_met a.registers.now marked (a.at + a.valued) a.marked (omega (arith, c.if-registers-end.false)) c.few_marked.result c.few_marked.ensures c.if-few_marked.true)
 
-pub returns : goal.returns
-returns c =
+pub returns-else-few_marked : goal.returns-else-few_marked
+returns-else-few_marked c =
     let a = c.args in
     passes_then a.registers.now (first c.before.before.before)
     (stretch_not a.registers.now marked (a.at + a.valued) a.marked (omega (arith, c.if-registers-end.false)) c.few_marked.result c.few_marked.ensures c.if-few_marked.false)

@@ -14,7 +14,7 @@ returns-then-few_marked c =
     let s = c.before.before.before.before in
     stretch_met s.args.registers.now marked s.args.at s.args.count (omega arith) c.few_marked.result c.few_marked.ensures c.if-few_marked.true
 
-pub returns : goal.returns
-returns c =
+pub returns-else-few_marked : goal.returns-else-few_marked
+returns-else-few_marked c =
     let s = c.before.before.before.before in
     stretch_not s.args.registers.now marked s.args.at s.args.count (omega arith) c.few_marked.result c.few_marked.ensures c.if-few_marked.false

@@ -14,7 +14,7 @@ returns-then-all_valued c =
     let s = c.before.before.before.before in
     stretch_met s.args.registers.now valued s.args.at s.args.count (omega arith) c.all_valued.result c.all_valued.ensures c.if-all_valued.true
 
-pub returns : goal.returns
-returns c =
+pub returns-else-all_valued : goal.returns-else-all_valued
+returns-else-all_valued c =
     let s = c.before.before.before.before in
     stretch_not s.args.registers.now valued s.args.at s.args.count (omega arith) c.all_valued.result c.all_valued.ensures c.if-all_valued.false

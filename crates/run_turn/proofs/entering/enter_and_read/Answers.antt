@@ -11,7 +11,7 @@ use Rattle.theory_program.specs.WordsStand.{stands_within}
 use Rattle.run_moves.specs.Held.{bounds}
 use Rattle.run_next_token.specs.Reading.{can_read_plain}
 use Rattle.run_turn.specs.entering.Predicting.{after_predict, entering_number, entering_full, entering_pushes, entering_holds, entering_inside, entering_reads}
-use Rattle.run_turn.proofs.entering.enter_and_read.Goals.{After-counted-next, Else-height-places, Start, Then-can_read_plain}
+use Rattle.run_turn.proofs.entering.enter_and_read.Goals.{After-counted-pushed, Else-height-places, Start, Then-can_read_plain}
 use Rattle.run_turn.proofs.entering.enter_and_read.Goals as goal
 
 abbrev start : Else-height-places → Start
@@ -25,7 +25,7 @@ small : (s : Start) → (1 ≤ directory_number s.args.entry) × (directory_numb
 small s = let p = s.requires in entering_number s.args.program.now s.args.places.now s.args.run s.args.look s.args.entry p.1 p.2 p.3 p.0.1
 
 -- where the run after the predict is made
-abbrev else-of : After-counted-next → Else-height-places
+abbrev else-of : After-counted-pushed → Else-height-places
 else-of c = (record { before = c.before.before.before.before; type_inv = record { program = c.before.before.before.before.shared_slice_known-1.given; places = c.before.before.before.before.slice_known-1.given } })
 
 -- the read comes next
@@ -34,7 +34,7 @@ plain c =
     let k = c.before.before in
     let n = k.before in
     let a = (start (else-of (record { before = n; type_inv = record { program = n.shared_slice_known-1.given; places = n.slice_known-1.given } }))).args in
-    rw (n.counted-next.ensures, n.directory_scheme-at.ensures) at (sym k.can_read_plain.ensures ∙ c.if-can_read_plain.true)
+    rw (n.counted-pushed.ensures, n.directory_scheme-at.ensures) at (sym k.can_read_plain.ensures ∙ c.if-can_read_plain.true)
 
 inside : (c : Then-can_read_plain) → (let a = (start (else-of (record { before = c.before.before.before; type_inv = record { program = c.before.before.before.shared_slice_known-1.given; places = c.before.before.before.slice_known-1.given } }))).args in (directory_scheme a.entry + 1 < length a.program.now) × (a.run.moves + 1 < moves_limit))
 inside c =
@@ -54,8 +54,8 @@ returns-then-height-places c =
 pub overflow_sub-production : goal.overflow_sub-production
 overflow_sub-production c = omega (arith, c.directory_number-production.ensures, (small (start (record { before = c.before.before.before; type_inv = record { program = c.before.before.before.shared_slice_known-1.given; places = c.before.before.before.slice_known-1.given } }))).0)
 
-pub counted-next-requires : goal.counted-next-requires
-counted-next-requires c = (start (record { before = c.before.before.before; type_inv = record { program = c.before.before.before.shared_slice_known-1.given; places = c.before.before.before.slice_known-1.given } })).requires.0.1.limit
+pub counted-pushed-requires : goal.counted-pushed-requires
+counted-pushed-requires c = (start (record { before = c.before.before.before; type_inv = record { program = c.before.before.before.shared_slice_known-1.given; places = c.before.before.before.slice_known-1.given } })).requires.0.1.limit
 
 pub overflow_add-next : goal.overflow_add-next
 overflow_add-next c = record { fits = omega (arith, room (else-of c), c.well_formed.0.0) }
@@ -67,7 +67,7 @@ can_read_plain-requires c =
     let p = s.requires in
     let r = p.0.1 in
     let h = (entering_holds s.args.program.now s.args.places.now s.args.run s.args.look s.args.entry p.1 p.2 p.3 r.operation r.limit (room e) r).held in
-    (omega (arith, (bounds h).inside, ap (λ x. x.at) c.counted-next.ensures, c.directory_scheme-at.ensures), omega (arith, stands_within (segment_at h.begins)), p.1)
+    (omega (arith, (bounds h).inside, ap (λ x. x.at) c.counted-pushed.ensures, c.directory_scheme-at.ensures), omega (arith, stands_within (segment_at h.begins)), p.1)
 
 pub overflow_add-at : goal.overflow_add-at
 overflow_add-at c = omega (arith, (inside (record { before = c.before.before; type_inv = record { program = c.before.before.shared_slice_known-1.given; places = c.before.before.slice_known-1.given } })).0, c.directory_scheme-at.ensures)
@@ -82,10 +82,10 @@ push_read-requires c =
 pub counted-after-requires : goal.counted-after-requires
 counted-after-requires c =
     let t = c.before.before.before.before.before in
-    omega (arith, (inside (record { before = t; type_inv = record { program = t.shared_slice_known-1.given; places = t.slice_known-1.given } })).1, ap (λ x. x.moves) t.counted-next.ensures)
+    omega (arith, (inside (record { before = t; type_inv = record { program = t.shared_slice_known-1.given; places = t.slice_known-1.given } })).1, ap (λ x. x.moves) t.counted-pushed.ensures)
 
-pub overflow_add-after : goal.overflow_add-after
-overflow_add-after c =
+pub overflow_add-result : goal.overflow_add-result
+overflow_add-result c =
     let h = (start (else-of (record { before = c.before.before.before.before.before.before.before.before.before; type_inv = record { program = c.before.before.before.before.before.before.before.before.before.shared_slice_known-1.given; places = c.before.before.before.before.before.before.before.before.before.slice_known-1.given } }))).requires.0.1.held in
     record { fits = omega (arith, h.tokens, h.few_tokens) }
 
@@ -101,7 +101,7 @@ returns-then-can_read_plain c =
     let s = start (record { before = e; type_inv = record { program = e.shared_slice_known-1.given; places = e.slice_known-1.given } }) in
     let p = s.requires in
     let r = p.0.1 in
-    rw (q.push_read.ensures, m.counted-after.ensures, w.counted-next.ensures, d.directory_scheme-at.ensures, n.directory_number-production.ensures)
+    rw (q.push_read.ensures, m.counted-after.ensures, w.counted-pushed.ensures, d.directory_scheme-at.ensures, n.directory_number-production.ensures)
     (entering_reads s.args.program.now s.args.places.now s.args.run s.args.look s.args.entry p.1 p.2 p.3 r.operation r.limit (room (record { before = e; type_inv = record { program = e.shared_slice_known-1.given; places = e.slice_known-1.given } })) (plain (record { before = t; type_inv = record { program = t.shared_slice_known-1.given; places = t.slice_known-1.given } })) (inside (record { before = t; type_inv = record { program = t.shared_slice_known-1.given; places = t.slice_known-1.given } })).1)
 
 pub push-requires : goal.push-requires
@@ -120,5 +120,5 @@ returns c =
     let s = start (record { before = e; type_inv = record { program = e.shared_slice_known-1.given; places = e.slice_known-1.given } }) in
     let p = s.requires in
     let r = p.0.1 in
-    rw (q.push.ensures, w.counted-next.ensures, d.directory_scheme-at.ensures, n.directory_number-production.ensures)
+    rw (q.push.ensures, w.counted-pushed.ensures, d.directory_scheme-at.ensures, n.directory_number-production.ensures)
     (entering_pushes s.args.program.now s.args.places.now s.args.run s.args.look s.args.entry p.1 p.2 p.3 r.operation r.limit (room (record { before = e; type_inv = record { program = e.shared_slice_known-1.given; places = e.slice_known-1.given } })))

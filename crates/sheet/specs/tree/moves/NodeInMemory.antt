@@ -1,5 +1,5 @@
 -- Memory that holds a node in progress, and what moves lead to: a later configuration, or a refusal.
-use Rattle.std.specs.Prelude.{ℕ, zero, suc, ◌≤◌, ◌<◌, ◌≡◌, refl, Bool, true, false, ◌&&◌, ◌||◌, List, [], ◌∷◌, length, get_or, drop, T, eqb, ℤ, pos}
+use Rattle.std.specs.Prelude.{ℕ, zero, suc, ◌≤◌, ◌<◌, ◌≡◌, refl, Bool, true, false, ◌&&◌, ◌||◌, List, [], ◌∷◌, length, get_or, drop, T, eqb, ℤ, pos, Ok, Err}
 use Rattle.std.proofs.Common.{arith, sym, ap, ◌∙◌, subst, drop_of_length-le, ne_eqb, eqb-true}
 use Rattle.std.proofs.Math.Bool.{and-false}
 use Rattle.meaning.specs.Sets.{end_number}
@@ -23,11 +23,12 @@ use Rattle.theory_sheet.specs.Whole.{Failing, fails_behind}
 use Rattle.theory_sheet.specs.NodeInProgress.{Stand}
 use Rattle.theory_sheet.specs.Walking.{inside, coming_to, rest, Fair, inside_on, inside_stuck, look_on, look_refused, look_35, look_20}
 use Rattle.run_moves.specs.declared.Run.{Run}
-use Rattle.run_machine.specs.declared.Ended as Ended
-use Rattle.run_machine.specs.declared.Ended.TheVariants.{Stopped, Failed}
+use Rattle.refusals.specs.declared.Refusal.TheVariants.{UnknownToken, LimitReached}
+use Rattle.refusals.specs.Numbers.{refusal_number}
+use Rattle.run_machine.specs.declared.Failed.{Failed}
 use Rattle.run_moves.specs.Held.{Held, Hand, AtHand, some, nothing, at_hand}
 use Rattle.run_moves.specs.Passing.{coming_of}
-use Rattle.run_machine.specs.Advancing.{Running}
+use Rattle.run_machine.specs.Advancing.{Ended, Running}
 use Rattle.run_looking.specs.Judging.{value_at}
 use Rattle.run_machine.specs.Feeding.{comes_to, comes_is, comes_ahead}
 use Rattle.run_next_token.specs.Coming.{tokens_turn, tokens_few}
@@ -125,11 +126,11 @@ refused_from e r = record { to = r.to; held = r.held; fails = fails_behind e r.f
 pub record Going (ws : List ℕ) (m₀ : List ℤ) (ps₀ : List ℕ) (run₀ : Run) (m : List ℤ) (ps : List ℕ) (run : Run) : Type 0 where
   pub from : (g : Grammar) (lent : Lent) (tokens : List Leaf) (c : Config) (o : Open) (bs : List Ancestor) → T (all (is_leaf_of g) tokens) → Held g ws lent m₀ ps₀ run₀ c → Stand g tokens o bs c → Reached g ws lent tokens c o bs m ps run
 
-abbrev pub SettledAs : Grammar → List ℕ → Lent → List Leaf → Config → Open → List Ancestor → List ℤ → List ℕ → Ended.Ended → Type 0
-SettledAs g ws lent tokens c o bs m ps (Stopped run) = Reached g ws lent tokens c o bs m ps run × (is_inside (head_operation (get_or ws run.at 0)) ≡ false)
-SettledAs g ws lent tokens c o bs m ps (Failed run k) = Refused g ws lent tokens c m ps run k
+abbrev pub SettledAs : Grammar → List ℕ → Lent → List Leaf → Config → Open → List Ancestor → List ℤ → List ℕ → Ended → Type 0
+SettledAs g ws lent tokens c o bs m ps (Ok run) = Reached g ws lent tokens c o bs m ps run × (is_inside (head_operation (get_or ws run.at 0)) ≡ false)
+SettledAs g ws lent tokens c o bs m ps (Err f) = Refused g ws lent tokens c m ps f.run (refusal_number f.refusal)
 
-abbrev pub Settles : List ℕ → List ℤ → List ℕ → Run → List ℤ → List ℕ → Ended.Ended → Type 0
+abbrev pub Settles : List ℕ → List ℤ → List ℕ → Run → List ℤ → List ℕ → Ended → Type 0
 Settles ws m₀ ps₀ run₀ m ps e = (g : Grammar) (lent : Lent) (tokens : List Leaf) (c : Config) (o : Open) (bs : List Ancestor) → T (all (is_leaf_of g) tokens) → Held g ws lent m₀ ps₀ run₀ c → Stand g tokens o bs c → SettledAs g ws lent tokens c o bs m ps e
 
 pub going_start : (ws : List ℕ) (m : List ℤ) (ps : List ℕ) (run : Run) → Going ws m ps run m ps run
@@ -141,7 +142,7 @@ module _ {ws : List ℕ} {m₀ : List ℤ} {ps₀ : List ℕ} {run₀ : Run} {m 
       let q = k.from r.grammar r.lent r.tokens r.config r.node r.below r.known r.held r.stand in
       record { grammar = r.grammar; lent = r.lent; tokens = r.tokens; known = r.known; config = q.to; node = r.node; below = r.below; held = q.held; stand = q.stand }
 
-  pub going_stop : is_inside (head_operation (get_or ws run.at 0)) ≡ false → Settles ws m₀ ps₀ run₀ m ps (Stopped run)
+  pub going_stop : is_inside (head_operation (get_or ws run.at 0)) ≡ false → Settles ws m₀ ps₀ run₀ m ps (Ok run)
   going_stop e g lent tokens c o bs known h s = (k.from g lent tokens c o bs known h s, e)
 
   module _ (e : is_inside (head_operation (get_or ws run.at 0)) ≡ true) where
@@ -156,7 +157,7 @@ module _ {ws : List ℕ} {m₀ : List ℤ} {ps₀ : List ℕ} {run₀ : Run} {m 
             six : head_operation (get_or ws run.at 0) ≡ nothing_operation
             six = omega arith
 
-    pub going_on : (m' : List ℤ) (ps' : List ℕ) (run' : Run) → Tries ws m ps run ends m' ps' (Stopped run') → Going ws m₀ ps₀ run₀ m' ps' run'
+    pub going_on : (m' : List ℤ) (ps' : List ℕ) (run' : Run) → Tries ws m ps run ends m' ps' (Ok run') → Going ws m₀ ps₀ run₀ m' ps' run'
     going_on m' ps' run' a = record { from = λ g lent tokens c o bs known h s. more g lent tokens c o bs known (k.from g lent tokens c o bs known h s) }
       where
         more : (g : Grammar) (lent : Lent) (tokens : List Leaf) (c : Config) (o : Open) (bs : List Ancestor) → T (all (is_leaf_of g) tokens) → Reached g ws lent tokens c o bs m ps run → Reached g ws lent tokens c o bs m' ps' run'
@@ -166,15 +167,15 @@ module _ {ws : List ℕ} {m₀ : List ℤ} {ps₀ : List ℕ} {run₀ : Run} {m 
             let n = inside_on g q.held.well_formed lent tokens known q.to q.stand x.0 x.1.frames x.2 ends t.0 t.1 in
             record { to = t.0; held = t.2; stand = n.0; same = q.same ∙ n.1; later = omega (arith, q.later, (counts g lent ends q.to t.0 t.1).moves) }
 
-    pub going_fail : (m' : List ℤ) (ps' : List ℕ) (run' : Run) (j : ℕ) → Tries ws m ps run ends m' ps' (Failed run' j) → Settles ws m₀ ps₀ run₀ m' ps' (Failed run' j)
-    going_fail m' ps' run' j a g lent tokens c o bs known h s =
+    pub going_fail : (m' : List ℤ) (ps' : List ℕ) (f : Failed) → Tries ws m ps run ends m' ps' (Err f) → Settles ws m₀ ps₀ run₀ m' ps' (Err f)
+    going_fail m' ps' f a g lent tokens c o bs known h s =
         let q = k.from g lent tokens c o bs known h s in
         let t = a g lent q.to q.held tt in
         let x = at_inside q.held in
-        record { to = q.to; held = t.1; fails = fails_behind q.same (inside_stuck g q.held.well_formed lent tokens known q.to q.stand x.0 x.1.frames x.2 ends j t.0) }
+        record { to = q.to; held = t.1; fails = fails_behind q.same (inside_stuck g q.held.well_formed lent tokens known q.to q.stand x.0 x.1.frames x.2 ends (refusal_number f.refusal) t.0) }
 
     -- each move counts
-    pub going_less : (m' : List ℤ) (ps' : List ℕ) (run' : Run) → Tries ws m ps run ends m' ps' (Stopped run') → Stood ws m ps run → (run'.moves ≡ suc run.moves) × (run'.moves ≤ moves_limit)
+    pub going_less : (m' : List ℤ) (ps' : List ℕ) (run' : Run) → Tries ws m ps run ends m' ps' (Ok run') → Stood ws m ps run → (run'.moves ≡ suc run.moves) × (run'.moves ≤ moves_limit)
     going_less m' ps' run' a r =
         let t = a r.grammar r.lent r.config r.held tt in
         (t.2.moves ∙ ((counts r.grammar r.lent ends r.config t.0 t.1).moves ∙ ap suc (sym r.held.moves)), omega (arith, t.2.moves, t.2.few_moves))
@@ -187,11 +188,11 @@ pub record Onward (g : Grammar) (ws : List ℕ) (lent : Lent) (tokens : List Lea
   pub made : next g lent (look_at (coming_to c tokens)) c ≡ moved to
   pub same : rest g lent tokens c ≡ rest g lent tokens to
 
-abbrev pub SteppedAs : Grammar → List ℕ → Lent → List Leaf → Config → List ℤ → List ℕ → Ended.Ended → Type 0
-SteppedAs g ws lent tokens c m ps (Stopped run) = Onward g ws lent tokens c m ps run
-SteppedAs g ws lent tokens c m ps (Failed run k) = Refused g ws lent tokens c m ps run k
+abbrev pub SteppedAs : Grammar → List ℕ → Lent → List Leaf → Config → List ℤ → List ℕ → Ended → Type 0
+SteppedAs g ws lent tokens c m ps (Ok run) = Onward g ws lent tokens c m ps run
+SteppedAs g ws lent tokens c m ps (Err f) = Refused g ws lent tokens c m ps f.run (refusal_number f.refusal)
 
-abbrev pub Steps : List ℕ → List ℕ → List ℤ → List ℤ → List ℕ → Run → List ℤ → List ℕ → Ended.Ended → Type 0
+abbrev pub Steps : List ℕ → List ℕ → List ℤ → List ℤ → List ℕ → Run → List ℤ → List ℕ → Ended → Type 0
 Steps ws ks vs m₀ ps₀ run₀ m ps e = (g : Grammar) (lent : Lent) (c : Config) (o : Open) (bs : List Ancestor) → length ks ≡ length vs → T (all four_bytes vs) → Held g ws lent m₀ ps₀ run₀ c → Stand g (tokens_as g ks vs) o bs c → SteppedAs g ws lent (tokens_as g ks vs) c m ps e
 
 leaves_drop : (g : Grammar) (i : ℕ) (ts : List Token) → drop i (leaves g ts) ≡ leaves g (drop i ts)
@@ -232,18 +233,18 @@ module _ {ws : List ℕ} {m₀ : List ℤ} {ps₀ : List ℕ} {run₀ : Run} (lo
     unfinished = let a = at_look in ap (λ fs. elim fs as (λ z. Bool) [ [] ↦ false | f ∷ gs ↦ eqb f.production whole && is_empty f.rest ]) a.1.frames ∙ and-false (eqb a.1.production whole)
 
     -- by what is let through, and the move that was tried
-    stepped : {o : Open} {bs : List Ancestor} (tokens : List Leaf) (l : Coming) (m : List ℤ) (ps : List ℕ) (e : Ended.Ended) → T (all (is_leaf_of g) tokens)
+    stepped : {o : Open} {bs : List Ancestor} (tokens : List Leaf) (l : Coming) (m : List ℤ) (ps : List ℕ) (e : Ended) → T (all (is_leaf_of g) tokens)
         → Stand g tokens o bs c → Fair g c (coming_to c tokens) → look_at (coming_to c tokens) ≡ l → Tried g ws lent l c m ps e → SteppedAs g ws lent tokens c m ps e
-    stepped tokens l m ps (Stopped run) known s fair z t =
+    stepped tokens l m ps (Ok run) known s fair z t =
         let a = at_look in
         let n : next g lent (look_at (coming_to c tokens)) c ≡ moved t.0 = ap (λ k. next g lent k c) z ∙ t.1 in
         record { to = t.0; held = t.2; made = n; same = look_on g h.well_formed lent tokens known c s a.0 a.1.frames a.2 a.3 fair t.0 n }
-    stepped tokens l m ps (Failed run k) known s fair z t =
+    stepped tokens l m ps (Err f) known s fair z t =
         let a = at_look in
-        record { to = c; held = t.1; fails = look_refused g h.well_formed lent tokens known c s a.0 a.1.frames a.2 a.3 fair k (ap (λ j. next g lent j c) z ∙ t.0) }
+        record { to = c; held = t.1; fails = look_refused g h.well_formed lent tokens known c s a.0 a.1.frames a.2 a.3 fair (refusal_number f.refusal) (ap (λ j. next g lent j c) z ∙ t.0) }
 
   module _ (ks : List ℕ) (vs : List ℤ) where
-    pub step_end : (m : List ℤ) (ps : List ℕ) (e : Ended.Ended) → length ks ≤ run₀.tokens → Tries ws m₀ ps₀ run₀ ends m ps e → Steps ws ks vs m₀ ps₀ run₀ m ps e
+    pub step_end : (m : List ℤ) (ps : List ℕ) (e : Ended) → length ks ≤ run₀.tokens → Tries ws m₀ ps₀ run₀ ends m ps e → Steps ws ks vs m₀ ps₀ run₀ m ps e
     step_end m ps e l a g lent c o bs even four h s =
         let none : coming_to c (tokens_as g ks vs) ≡ [] = none_left ks vs g c.tokens (omega (arith, l, h.tokens)) in
         stepped h (tokens_as g ks vs) ends m ps e (leaves_of g ks vs four) s (subst (Fair g c) (sym none) (unfinished h)) (ap look_at none) (a g lent c h tt)
@@ -252,13 +253,13 @@ module _ {ws : List ℕ} {m₀ : List ℤ} {ps₀ : List ℕ} {run₀ : Run} (lo
       there : {g : Grammar} {lent : Lent} {c : Config} → Held g ws lent m₀ ps₀ run₀ c → length ks ≡ length vs → coming_to c (tokens_as g ks vs) ≡ leaf_here ks vs g run₀.tokens ∷ leaves g (drop (suc run₀.tokens) (tokens_from ks vs))
       there {g} h even = ap (λ k. drop k (tokens_as g ks vs)) (sym h.tokens) ∙ one_left ks vs g run₀.tokens even few
 
-      pub step_35 : tokens_limit ≤ run₀.tokens → Steps ws ks vs m₀ ps₀ run₀ m₀ ps₀ (Failed run₀ 35)
+      pub step_35 : tokens_limit ≤ run₀.tokens → Steps ws ks vs m₀ ps₀ run₀ m₀ ps₀ (Err (record { run = run₀; refusal = LimitReached }))
       step_35 l g lent c o bs even four h s = record { to = c; held = h; fails = look_35 g lent (coming_to c (tokens_as g ks vs)) c (look_waits h) (leaf_here ks vs g run₀.tokens) _ (there h even) (omega (arith, l, h.tokens)) }
 
-      pub step_20 : run₀.tokens < tokens_limit → get_or ws 3 0 ≤ get_or ks run₀.tokens 0 → Steps ws ks vs m₀ ps₀ run₀ m₀ ps₀ (Failed run₀ 20)
+      pub step_20 : run₀.tokens < tokens_limit → get_or ws 3 0 ≤ get_or ks run₀.tokens 0 → Steps ws ks vs m₀ ps₀ run₀ m₀ ps₀ (Err (record { run = run₀; refusal = UnknownToken }))
       step_20 l k g lent c o bs even four h s = record { to = c; held = h; fails = look_20 g lent (coming_to c (tokens_as g ks vs)) c (look_waits h) (leaf_here ks vs g run₀.tokens) _ (there h even) (omega (arith, l, h.tokens)) (omega (arith, k, (segment_words_lem h.begins).terminals)) }
 
-      pub step_token : (m : List ℤ) (ps : List ℕ) (e : Ended.Ended) → run₀.tokens < tokens_limit → get_or ks run₀.tokens 0 < get_or ws 3 0
+      pub step_token : (m : List ℤ) (ps : List ℕ) (e : Ended) → run₀.tokens < tokens_limit → get_or ks run₀.tokens 0 < get_or ws 3 0
           → Tries ws m₀ ps₀ run₀ (coming_of (get_or ks run₀.tokens 0) (value_at ws (get_or ks run₀.tokens 0) (get_or vs run₀.tokens (pos 0)))) m ps e → Steps ws ks vs m₀ ps₀ run₀ m ps e
       step_token m ps e l k a g lent c o bs even four h s =
           let u = get_or ks run₀.tokens 0 in

@@ -1,5 +1,5 @@
 -- Nodes and lists of children: what each comes to, and how one follows from the other.
-use Rattle.std.specs.Prelude.{ℕ, suc, ◌+◌, ◌-◌, ◌*◌, ◌≤◌, ◌<◌, ◌≡◌, refl, Bool, true, false, ◌||◌, List, [], ◌∷◌, ◌++◌, length, get_or, drop, T, eqb, ℤ}
+use Rattle.std.specs.Prelude.{ℕ, suc, ◌+◌, ◌-◌, ◌*◌, ◌≤◌, ◌<◌, ◌≡◌, refl, Bool, true, false, ◌||◌, List, [], ◌∷◌, ◌++◌, length, get_or, drop, T, eqb, ℤ, Ok, Err}
 use Rattle.std.proofs.Common.{arith, sym, ap, ap₂, ◌∙◌, subst, eqb-true, append-nil, length-append, length-take, length-drop}
 use Rattle.std.proofs.lemmas.Bool.{eqb-false}
 use Rattle.std.proofs.lemmas.List.{length-map}
@@ -26,8 +26,9 @@ use Rattle.theory_sheet.specs.NodeInProgress.{Stand, with_children, onto_forest,
 use Rattle.theory_sheet.specs.Walking.{rest, coming_to, own_values, read_on, predict_on, symbol_left, own_stand}
 use Rattle.run_moves.specs.declared.Run.{Run}
 use Rattle.run_moves.specs.Held.{Held, AtHand, some, nothing, at_hand, hand_terminal, hand_nonterminal, hand_remove, bounds}
-use Rattle.run_machine.specs.declared.Ended.TheVariants as E
-use Rattle.run_machine.specs.declared.Ended.{Ended}
+use Rattle.refusals.specs.Numbers.{refusal_number}
+use Rattle.run_machine.specs.declared.Failed as M
+use Rattle.run_machine.specs.Advancing.{Ended}
 use Rattle.sheet.specs.declared.tree.nodes.Counts.{Counts}
 use Rattle.sheet.specs.tree.steps.Numbers.{Walked, Left, Failed, walked_as}
 use Rattle.sheet.specs.tree.moves.NodeInMemory.{tokens_as, is_inside, IsLook, Stood, Walking, Refused, refused_from, SettledAs, Settles, Steps, at_look}
@@ -213,10 +214,10 @@ abbrev pub Passes : List ℕ → List ℕ → List ℤ → List ℤ → List ℕ
 Passes ws ks vs m₀ ps₀ run₀ k m ps w = (head_operation (get_or ws run₀.at 0) ≡ read_operation → (sheet₀ : List ℕ) → NodeDone ws ks vs m₀ ps₀ run₀ k sheet₀ m ps sheet₀ w) × (head_operation (get_or ws run₀.at 0) ≡ predict_operation → Enters ws ks vs m₀ ps₀ run₀ k m ps w)
 
 module _ {ws : List ℕ} (ks : List ℕ) (vs : List ℤ) {m₀ : List ℤ} {ps₀ : List ℕ} {run₀ : Run} where
-  pub pass_fails : (m : List ℤ) (ps : List ℕ) (run : Run) (j : ℕ) → Steps ws ks vs m₀ ps₀ run₀ m ps (E.Failed run j) → (k : ℕ) → Passes ws ks vs m₀ ps₀ run₀ k m ps (Failed run j)
-  pass_fails m ps run j a k = ((λ two sheet₀ g lent c o bs even four h s. a g lent c o bs even four h s), λ three g lent c o bs even four h s. a g lent c o bs even four h s)
+  pub pass_fails : (m : List ℤ) (ps : List ℕ) (f : M.Failed) → Steps ws ks vs m₀ ps₀ run₀ m ps (Err f) → (k : ℕ) → Passes ws ks vs m₀ ps₀ run₀ k m ps (Failed f.run (refusal_number f.refusal))
+  pass_fails m ps f a k = ((λ two sheet₀ g lent c o bs even four h s. a g lent c o bs even four h s), λ three g lent c o bs even four h s. a g lent c o bs even four h s)
 
-  module _ (m₁ : List ℤ) (ps₁ : List ℕ) (run₁ : Run) (a : Steps ws ks vs m₀ ps₀ run₀ m₁ ps₁ (E.Stopped run₁)) where
+  module _ (m₁ : List ℤ) (ps₁ : List ℕ) (run₁ : Run) (a : Steps ws ks vs m₀ ps₀ run₀ m₁ ps₁ (Ok run₁)) where
     -- the token that was read is a child
     read_at : head_operation (get_or ws run₀.at 0) ≡ read_operation → (k : ℕ) (sheet₀ : List ℕ) → NodeDone ws ks vs m₀ ps₀ run₀ k sheet₀ m₁ ps₁ sheet₀ (Left run₁ k)
     read_at two k sheet₀ g lent c o bs even four h s =
@@ -276,8 +277,8 @@ module _ {ws : List ℕ} (ks : List ℕ) (vs : List ℤ) {m₀ : List ℤ} {ps�
             go e x (b g lent (tokens_as g ks vs) x.to (with_child o x.tree) bs (leaves_of g ks vs four) x.held x.stand)
           where
             go : (e : Ended) (x : Noded g ws lent (tokens_as g ks vs) c o bs k sheet₀ m₁ ps₁ sheet₀ run₁ k) → SettledAs g ws lent (tokens_as g ks vs) x.to (with_child o x.tree) bs m ps e → NodedAs g ws lent (tokens_as g ks vs) c o bs k sheet₀ m ps sheet₀ (walked_as e k)
-            go (E.Failed run j) x z = refused_from x.same z
-            go (E.Stopped run) x z = record { to = z.0.to; tree = x.tree; held = z.0.held; stand = z.0.stand; same = x.same ∙ z.0.same; is_end = x.is_end; written = x.written; room = omega (arith, x.room, z.0.later) }
+            go (Err f) x z = refused_from x.same z
+            go (Ok run) x z = record { to = z.0.to; tree = x.tree; held = z.0.held; stand = z.0.stand; same = x.same ∙ z.0.same; is_end = x.is_end; written = x.written; room = omega (arith, x.room, z.0.later) }
 
         entered : head_operation (get_or ws run₀.at 0) ≡ predict_operation → Enters ws ks vs m₀ ps₀ run₀ k m ps (walked_as e k)
         entered three g lent c o bs even four h s =
@@ -286,8 +287,8 @@ module _ {ws : List ℕ} (ks : List ℕ) (vs : List ℤ) {m₀ : List ℤ} {ps�
           where
             go : (e : Ended) (x : Entered g ws lent (tokens_as g ks vs) c o bs m₁ ps₁ run₁)
                 → SettledAs g ws lent (tokens_as g ks vs) x.to (node_of x.production x.inherited []) (waiting_at o x.symbol x.ahead ∷ bs) m ps e → EnteredAs g ws lent (tokens_as g ks vs) c o bs k m ps (walked_as e k)
-            go (E.Failed run j) x z = refused_from x.same z
-            go (E.Stopped run) x z = (
+            go (Err f) x z = refused_from x.same z
+            go (Ok run) x z = (
               record {
                 to = z.0.to;
                 production = x.production;

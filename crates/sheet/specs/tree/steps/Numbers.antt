@@ -1,10 +1,11 @@
 -- The numbers of a walk in eight cells: the run's five; where the sheet goes on, or the number that refuses; how many registers and places are lent. And what a walk comes to.
-use Rattle.std.specs.Prelude.{ℕ, zero, suc, ◌≤◌, ◌<◌, ◌≡◌, refl, Bool, true, false, List, [], ◌∷◌, ◌++◌, length, get_or, set, take, drop}
+use Rattle.std.specs.Prelude.{ℕ, zero, suc, ◌≤◌, ◌<◌, ◌≡◌, refl, Bool, true, false, List, [], ◌∷◌, ◌++◌, length, get_or, set, take, drop, Ok, Err}
 use Rattle.std.proofs.Common.{arith, ap, ◌∙◌, length-set, length-append, length-take, length-drop, length-take-le, get_or-set_other, get_or-set_same}
 use Rattle.theory_program.specs.Parts.{head_operation}
 use Rattle.run_moves.specs.declared.Run.{Run}
-use Rattle.run_machine.specs.declared.Ended as Ended
-use Rattle.run_machine.specs.declared.Ended.TheVariants as E
+use Rattle.refusals.specs.Numbers.{refusal_number}
+use Rattle.run_machine.specs.declared.Failed as M
+use Rattle.run_machine.specs.Advancing.{Ended}
 use Rattle.sheet.specs.tree.moves.NodeInMemory.{is_inside}
 
 -- a node or a list of children is left, and so far does the sheet go; or a number refuses the move at hand
@@ -19,9 +20,9 @@ abbrev pub walked_in : Bool → List ℕ → Walked
 walked_in true s = Left (run_in s) (get_or s 5 0)
 walked_in false s = Failed (run_in s) (get_or s 5 0)
 
-abbrev pub walked_as : Ended.Ended → ℕ → Walked
-walked_as (E.Stopped run) end = Left run end
-walked_as (E.Failed run j) end = Failed run j
+abbrev pub walked_as : Ended → ℕ → Walked
+walked_as (Ok run) end = Left run end
+walked_as (Err f) end = Failed f.run (refusal_number f.refusal)
 
 -- what is at hand is no add, evaluate or test
 abbrev pub Rests : List ℕ → Walked → Type 0
@@ -113,20 +114,22 @@ stored_as (a ∷ (b ∷ (c ∷ (d ∷ (e ∷ (f ∷ (g ∷ []))))))) run l = abs
 stored_as (a ∷ (b ∷ (c ∷ (d ∷ (e ∷ (f ∷ (g ∷ (h ∷ t)))))))) run l = (refl, refl, refl, refl, l)
 
 -- what a call of the moves answered, written into the cells
-pub record AnswerWritten (s : List ℕ) (ended : Ended.Ended) (r : Bool) (s' : List ℕ) : Type 0 where
+pub record AnswerWritten (s : List ℕ) (ended : Ended) (r : Bool) (s' : List ℕ) : Type 0 where
   pub walked : walked_in r s' ≡ walked_as ended (get_or s 5 0)
   pub eight : length s' ≡ 8
   pub registers : get_or s' 6 0 ≡ get_or s 6 0
   pub places : get_or s' 7 0 ≡ get_or s 7 0
   pub small : Small r s'
 
-pub end_stopped : (s : List ℕ) (run : Run) → length s ≡ 8 → AnswerWritten s (E.Stopped run) true (stored s run)
+pub end_stopped : (s : List ℕ) (run : Run) → length s ≡ 8 → AnswerWritten s (Ok run) true (stored s run)
 end_stopped s run l =
     let x = stored_as s run l in
     record { walked = (λ i. Left (x.0 i) (x.1 i)); eight = x.4; registers = x.2; places = x.3; small = tt }
 
-pub end_failed : (s : List ℕ) (run : Run) (j : ℕ) → j < 4294967296 → length s ≡ 8 → AnswerWritten s (E.Failed run j) false (set (stored s run) 5 j)
-end_failed s run j few l =
+pub end_failed : (s : List ℕ) (f : M.Failed) → refusal_number f.refusal < 4294967296 → length s ≡ 8 → AnswerWritten s (Err f) false (set (stored s f.run) 5 (refusal_number f.refusal))
+end_failed s f few l =
+    let run : Run = f.run in
+    let j : ℕ = refusal_number f.refusal in
     let x = stored_as s run l in
     let t = stored s run in
     let y : run_in (set t 5 j) ≡ run = run_apart t j ∙ x.0 in

@@ -6,7 +6,7 @@ use Rattle.meaning.specs.Limits.{registers_limit, attributes_limit, symbols_limi
 use Rattle.theory_program.specs.Parts.{head_operation}
 use Rattle.theory_program.specs.Proper.{att_most}
 use Rattle.run_moves.specs.Held.{bounds}
-use Rattle.run_machine.specs.declared.Ended.{Ended}
+use Rattle.run_machine.specs.Advancing.{Ended}
 use Rattle.sheet.specs.declared.tree.nodes.Counts.{Counts}
 use Rattle.sheet.specs.tree.moves.NodeInMemory.{Walking, IsLook}
 use Rattle.sheet.specs.tree.nodes.Counting.{left_of, Counted}

@@ -15,12 +15,12 @@ make_move-requires c =
     let r = c.requires.0.running in
     (record { grammar = r.grammar; lent = r.lent; config = r.config; held = r.held; limit = omega (arith, (bounds r.held).moves, c.if-run-eq-MOVES_LIMIT.false); operation = refl }, c.requires.1, c.requires.2)
 
-pub returns-in-Moved : goal.returns-in-Moved
-returns-in-Moved c =
+pub returns-in-Ok : goal.returns-in-Ok
+returns-in-Ok c =
     let a = c.args in
-    tried_moved (coming_of a.look a.value) _ _ c.in-Moved.next (subst (λ x. Answers a.program.now a.registers.now a.places.now a.run (coming_of a.look a.value) c.make_move.new.registers c.make_move.new.places x) c.in-Moved.is (rw (to_z-of_z c.ranges.value) at c.make_move.ensures))
+    tried_moved (coming_of a.look a.value) _ _ c.in-Ok.next (subst (λ x. Answers a.program.now a.registers.now a.places.now a.run (coming_of a.look a.value) c.make_move.new.registers c.make_move.new.places x) c.in-Ok.is (rw (to_z-of_z c.ranges.value) at c.make_move.ensures))
 
-pub returns-in-Blocked : goal.returns-in-Blocked
-returns-in-Blocked c =
+pub returns-in-Err : goal.returns-in-Err
+returns-in-Err c =
     let a = c.args in
-    tried_blocked (coming_of a.look a.value) _ _ c.in-Blocked.k (subst (λ x. Answers a.program.now a.registers.now a.places.now a.run (coming_of a.look a.value) c.make_move.new.registers c.make_move.new.places x) c.in-Blocked.is (rw (to_z-of_z c.ranges.value) at c.make_move.ensures))
+    tried_blocked (coming_of a.look a.value) _ _ c.in-Err.refusal (subst (λ x. Answers a.program.now a.registers.now a.places.now a.run (coming_of a.look a.value) c.make_move.new.registers c.make_move.new.places x) c.in-Err.is (rw (to_z-of_z c.ranges.value) at c.make_move.ensures))

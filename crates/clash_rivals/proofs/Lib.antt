@@ -1,2 +1,0 @@
--- The loop over earlier productions
-pub mod Laws

@@ -1,0 +1,2 @@
+-- The number of a slot, or of none
+pub mod Slots

@@ -1,0 +1,2 @@
+-- Words written over a part of an area
+pub mod Patching

@@ -1,0 +1,2 @@
+-- The code's entries as those of a ranking
+pub mod Entries

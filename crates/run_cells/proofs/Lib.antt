@@ -1,2 +1,0 @@
--- Cells that are cleared one after the other
-pub mod Clearing
