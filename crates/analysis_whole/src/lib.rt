@@ -8,6 +8,7 @@ ghost use Rattle.outline.specs.Images.{Image, ImageOf};
 ghost use Rattle.set_words.specs.Views.{right_by};
 ghost use Rattle.set_words.specs.Growth.{SetsTo};
 ghost use Rattle.analysis.specs.Finding.{Analysed};
+ghost use Rattle.analysis_whole.specs.Flaws.{flaw_number, flawed};
 
 use crate::first::fronts;
 use crate::recursion::left_recursive;
@@ -15,6 +16,7 @@ use crate::then_follow::starting;
 use analysis::closing::nullable;
 use analysis_reachable::useless;
 use limits::{NONTERMINALS, PRODUCTIONS, ROWS};
+use refusals::TableFault;
 
 pub mod first;
 pub mod follow;
@@ -23,38 +25,41 @@ pub mod spreading;
 pub mod starts;
 pub mod then_follow;
 
-// The number of the refusal, or 0; its nonterminal.
-#[derive(Clone, Copy)]
-pub struct Analysis {
-    pub number: u32,
-    pub index: usize,
+// What is wrong, 11 or 12, and the nonterminal that it is wrong with.
+#[derive(Clone, Copy, Debug, PartialEq, Eq)]
+pub struct Flaw {
+    pub fault: TableFault,
+    pub nonterminal: usize,
 }
 
-// The lent array holds the words of the right sides; at the end, where the number is 0, FIRST-then-FOLLOW of each production.
+// Refusal 11 or 12. The lent array holds the words of the right sides; at the end, where there is no flaw, FIRST-then-FOLLOW of each production.
 pub fn analyse(
     rows: &[u8; ROWS],
     count: usize,
     nonterminals: usize,
     start: u8,
     sets: &mut [u64; PRODUCTIONS],
-) -> Analysis
+) -> Result<(), Flaw>
     requires { Image rows.now count × (nonterminals ≤ nonterminals_limit) × (start < nonterminals_limit) × SetsTo (right_by rows.now) count sets.old }
     ensures { (g : Grammar) → ImageOf rows.now count g → nonterminals ≡ nonterminal_count g → start ≡ g.start
-        → Analysed g result.number result.index sets.new }
+        → Analysed g (flaw_number result) (flawed result) sets.new }
 {
-    if let Some(index) = useless(rows, count, nonterminals, start, sets) {
-        return Analysis { number: 11, index };
+    if let Some(nonterminal) = useless(rows, count, nonterminals, start, sets) {
+        return Err(Flaw {
+            fault: TableFault::Useless,
+            nonterminal,
+        });
     }
     let null = nullable(rows, count, sets);
     let mut led = [0u64; NONTERMINALS];
     let mut first = [0u64; NONTERMINALS];
     fronts(rows, count, nonterminals, null, &mut led, &mut first);
-    if let Some(index) = left_recursive(&led, nonterminals) {
-        return Analysis { number: 12, index };
+    if let Some(nonterminal) = left_recursive(&led, nonterminals) {
+        return Err(Flaw {
+            fault: TableFault::LeftRecursive,
+            nonterminal,
+        });
     }
     starting(rows, count, nonterminals, start, null, &first, sets);
-    Analysis {
-        number: 0,
-        index: 0,
-    }
+    Ok(())
 }

@@ -11,7 +11,8 @@ ghost use Rattle.clash.specs.Kept.{Stored, bounds_length};
 ghost use Rattle.clash.specs.Placing.{Placed};
 ghost use Rattle.clash.specs.Clashing.{KeepsIf};
 
-use clash_entries::conditions::entry::{Entry, narrow_by};
+use clash_entries::conditions::entry::narrow_by;
+use clash_rivals::intervals::KeptEntries;
 use limits::{ATTRIBUTES, BOUNDS, PRODUCTIONS};
 
 // Production p's ends among those of all.
@@ -42,12 +43,10 @@ pub fn keep(
     offsets: &[u32; PRODUCTIONS],
     p: usize,
     wanted: bool,
-    lows: &mut [u32; BOUNDS],
-    highs: &mut [u32; BOUNDS],
-    ranks: &mut [Entry; PRODUCTIONS],
+    kept: &mut KeptEntries,
 )
-    requires { (p < productions_limit) × Placed table.now offsets.now p × (length lows.old ≡ bounds_length) × (length highs.old ≡ bounds_length) }
-    ensures { KeepsIf wanted table.now p lows.old highs.old (ranks_of ranks.old) lows.new highs.new (ranks_of ranks.new) }
+    requires { (p < productions_limit) × Placed table.now offsets.now p × (length kept.old.lows ≡ bounds_length) × (length kept.old.highs ≡ bounds_length) }
+    ensures { KeepsIf wanted table.now p kept.old.lows kept.old.highs (ranks_of kept.old.ranks) kept.new.lows kept.new.highs (ranks_of kept.new.ranks) }
 {
     if !wanted {
         return;
@@ -55,7 +54,7 @@ pub fn keep(
     let mut low = [0u32; ATTRIBUTES];
     let mut high = [u32::MAX; ATTRIBUTES];
     let from = offsets[p] as usize;
-    ranks[p] = narrow_by(&table[from..], &mut low, &mut high);
-    store(lows, p, &low);
-    store(highs, p, &high);
+    kept.ranks[p] = narrow_by(&table[from..], &mut low, &mut high);
+    store(&mut kept.lows, p, &low);
+    store(&mut kept.highs, p, &high);
 }

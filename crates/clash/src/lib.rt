@@ -11,7 +11,6 @@ ghost use Rattle.meaning.specs.Decide.{meet};
 ghost use Rattle.token_set.specs.SetBits.{set_of};
 ghost use Rattle.outline.specs.Images.{Image};
 ghost use Rattle.set_words.specs.Views.{members};
-ghost use Rattle.analysis.specs.Numbers.{Found};
 ghost use Rattle.analysis.specs.Lowest.{Lowest};
 ghost use Rattle.clash_entries.specs.conditions.Ranks.{ranks_of};
 ghost use Rattle.clash_rivals.specs.Rivals.{rival};
@@ -21,6 +20,7 @@ ghost use Rattle.clash.specs.Clashing.{Given, Meeting, FirstRival, FirstCrossing
 use crate::kept::{has_entry, keep};
 use crate::together::enters_together;
 use clash_entries::conditions::entry::Entry;
+use clash_rivals::intervals::KeptEntries;
 use clash_rivals::next_rival;
 use limits::{BOUNDS, NONTERMINALS, PRODUCTIONS, ROWS};
 use nonterminal_set::NonterminalSet;
@@ -31,17 +31,15 @@ use token_set::TokenSet;
 fn first_rival(
     rows: &[u8; ROWS],
     sets: &[u64; PRODUCTIONS],
-    lows: &[u32; BOUNDS],
-    highs: &[u32; BOUNDS],
-    ranks: &[Entry; PRODUCTIONS],
+    kept: &KeptEntries,
     later: usize,
     seen: TokenSet,
 ) -> Option<usize>
     requires { later < productions_limit }
-    ensures { FirstRival (meet (set_of seen.0) (set_of (get_or sets.now later 0))) (rival rows.now sets.now lows.now highs.now (ranks_of ranks.now) later) later result }
+    ensures { FirstRival (meet (set_of seen.0) (set_of (get_or sets.now later 0))) (rival rows.now sets.now kept.now.lows kept.now.highs (ranks_of kept.now.ranks) later) later result }
 {
     if seen.meets(TokenSet(sets[later])) {
-        next_rival(rows, sets, lows, highs, ranks, later, 0)
+        next_rival(rows, sets, kept, later, 0)
     } else {
         None
     }
@@ -107,30 +105,32 @@ fn lowest_by_entry(
     requires { Given table.now rows.now offsets.now sets.now count × Meeting rows.now sets.now count met.0 }
     ensures { Lowest (Decide.clashes (grammar_in table.now)) count result }
 {
-    let mut lows = [0u32; BOUNDS];
-    let mut highs = [0u32; BOUNDS];
-    let mut ranks = [Entry::Free; PRODUCTIONS];
+    let mut kept = KeptEntries {
+        lows: [0; BOUNDS],
+        highs: [0; BOUNDS],
+        ranks: [Entry::Free; PRODUCTIONS],
+    };
     let mut seen = [0u64; NONTERMINALS];
     for later in 0..count {
         let left = left_of(rows, later);
         let at = left as usize;
         let on = met.has(left);
-        keep(table, offsets, later, on, &mut lows, &mut highs, &mut ranks);
+        keep(table, offsets, later, on, &mut kept);
         let had = TokenSet(seen[at]);
-        let mut rival = first_rival(rows, sets, &lows, &highs, &ranks, later, had);
+        let mut rival = first_rival(rows, sets, &kept, later, had);
         // Kept: from rival to rival; an iterator over them would hold the outline and what is kept of both productions, and call the same function.
         while let Some(earlier) = rival {
-            if enters_together(table, offsets, &ranks, later, earlier) {
+            if enters_together(table, offsets, &kept.ranks, later, earlier) {
                 return Some(later);
             }
-            rival = next_rival(rows, sets, &lows, &highs, &ranks, later, earlier + 1);
+            rival = next_rival(rows, sets, &kept, later, earlier + 1);
         }
         seen[at] = had.union(TokenSet(sets[later])).0;
     }
     None
 }
 
-// The lowest production that clashes with an earlier one; `count` where there is none.
+// The lowest production that clashes with an earlier one.
 // Entry conditions are read only of nonterminals with productions whose sets meet; where the first such production has none, it clashes.
 pub fn lowest_clash(
     table: &[u8],
@@ -138,16 +138,14 @@ pub fn lowest_clash(
     offsets: &[u32; PRODUCTIONS],
     sets: &[u64; PRODUCTIONS],
     count: usize,
-) -> usize
+) -> Option<usize>
     requires { Given table.now rows.now offsets.now sets.now count }
-    ensures { Found (Decide.clashes (grammar_in table.now)) count result }
+    ensures { Lowest (Decide.clashes (grammar_in table.now)) count result }
 {
-    let Some(first) = first_crossing(rows, sets, count) else {
-        return count;
-    };
+    let first = first_crossing(rows, sets, count)?;
     if !has_entry(table, offsets, first) {
-        return first;
+        return Some(first);
     }
     let met = meeting(rows, sets, count);
-    lowest_by_entry(table, rows, offsets, sets, count, met).unwrap_or(count)
+    lowest_by_entry(table, rows, offsets, sets, count, met)
 }

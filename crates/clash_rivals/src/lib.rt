@@ -7,9 +7,8 @@ ghost use Rattle.meaning.specs.Limits.{productions_limit};
 ghost use Rattle.clash_entries.specs.conditions.Ranks.{ranks_of};
 ghost use Rattle.clash_rivals.specs.Rivals.{start_together, rival, NextRival};
 
-use crate::intervals::leaves_values;
-use clash_entries::conditions::entry::Entry;
-use limits::{BOUNDS, PRODUCTIONS, ROWS};
+use crate::intervals::KeptEntries;
+use limits::{PRODUCTIONS, ROWS};
 use outline::left_of;
 use token_set::TokenSet;
 
@@ -29,34 +28,30 @@ fn starts_together(rows: &[u8; ROWS], sets: &[u64; PRODUCTIONS], p: usize, q: us
 fn is_rival(
     rows: &[u8; ROWS],
     sets: &[u64; PRODUCTIONS],
-    lows: &[u32; BOUNDS],
-    highs: &[u32; BOUNDS],
-    ranks: &[Entry; PRODUCTIONS],
+    kept: &KeptEntries,
     p: usize,
     q: usize,
 ) -> bool
     requires { (p < productions_limit) × (q < productions_limit) }
-    ensures { result ≡ rival rows.now sets.now lows.now highs.now (ranks_of ranks.now) p q }
+    ensures { result ≡ rival rows.now sets.now kept.now.lows kept.now.highs (ranks_of kept.now.ranks) p q }
 {
     starts_together(rows, sets, p, q)
-        && (!ranks[p].is_ranges() || !ranks[q].is_ranges() || leaves_values(lows, highs, p, q))
+        && (!kept.ranks[p].is_ranges() || !kept.ranks[q].is_ranges() || kept.leave_values(p, q))
 }
 
 // The first rival of `later` from `from` on.
 pub fn next_rival(
     rows: &[u8; ROWS],
     sets: &[u64; PRODUCTIONS],
-    lows: &[u32; BOUNDS],
-    highs: &[u32; BOUNDS],
-    ranks: &[Entry; PRODUCTIONS],
+    kept: &KeptEntries,
     later: usize,
     from: usize,
 ) -> Option<usize>
     requires { (later < productions_limit) × (from ≤ later) }
-    ensures { NextRival (rival rows.now sets.now lows.now highs.now (ranks_of ranks.now) later) later from result }
+    ensures { NextRival (rival rows.now sets.now kept.now.lows kept.now.highs (ranks_of kept.now.ranks) later) later from result }
 {
     for earlier in from..later {
-        if is_rival(rows, sets, lows, highs, ranks, later, earlier) {
+        if is_rival(rows, sets, kept, later, earlier) {
             return Some(earlier);
         }
     }

@@ -38,6 +38,7 @@ pub fn hand_back(handed: Handed) -> Called
 }
 
 // A call on a run that is opened. Kinds and values are a feed's.
+// Kept: registers, places and program come one by one, as C lends them; a function that takes a struct with a `&mut` has to say besides that the field still holds that reference, so clauses would get longer.
 fn perform(
     call: Call,
     state: State,

@@ -26,7 +26,7 @@ use Rattle.outline.specs.Outline.{Carries}
 use Rattle.theory_base.specs.Members.{eqb_both}
 use Rattle.refusals.specs.Numbers.{fault_number}
 use Rattle.table_counts.proofs.Faulty.{faulty}
-use Rattle.table_carriers.specs.declared.RefusedCarrier.{RefusedCarrier}
+use Rattle.table_fields.specs.declared.Refused.{Refused}
 use Rattle.table_carriers.specs.Named.{CarrierJudged, NoCarrier, CarriersDone, CarrierRefused}
 
 -- ---- one field
@@ -118,7 +118,7 @@ module _ (t : List ℕ) (from terminals : ℕ) where
 
   module _ (at least : ℕ) (set : TokenSet) (w : Carrying t from terminals at least set.0) where
     module _ (number : ℕ) (j : CarrierJudged t at terminals least number) where
-      pub carrying_refused : (r : RefusedCarrier) → fault_number r.fault ≡ number → r.at ≡ at → CarrierRefused t from terminals r
+      pub carrying_refused : (r : Refused) → fault_number r.fault ≡ number → r.at ≡ at → CarrierRefused t from terminals r
       carrying_refused r p q =
           let n : (number ≡ 0 → ⊥) = λ z. faulty r.fault (p ∙ z) in
           record {

@@ -8,6 +8,7 @@ ghost use Rattle.refusals.specs.Numbers.{fault_or_zero};
 ghost use Rattle.table_carriers.specs.Named.{CarrierJudged, CarriersRead, NoCarrier};
 
 use refusals::TableFault;
+use table_fields::Refused;
 use token_set::TokenSet;
 
 // The end of the tag 6 fields, and the set of the terminals that they name.
@@ -15,13 +16,6 @@ use token_set::TokenSet;
 pub struct Carried {
     pub at: usize,
     pub carrying: TokenSet,
-}
-
-// What is wrong with a tag 6 field, and where it stands.
-#[derive(Clone, Copy, Debug, PartialEq, Eq)]
-pub struct RefusedCarrier {
-    pub fault: TableFault,
-    pub at: usize,
 }
 
 // Whether a tag 6 field stands at an offset.
@@ -33,6 +27,7 @@ pub fn is_carrier(table: &[u8], at: usize) -> bool
 }
 
 // What is wrong with the tag 6 field at an offset. The terminals from `least` on are above the one before.
+#[tactic(auto, using(crate::proofs::Carrying::carrier_cut, crate::proofs::Carrying::carrier_right, table_counts::proofs::Steps::part_body))]
 pub fn judge_carrier(
     table: &[u8],
     at: usize,
@@ -42,16 +37,15 @@ pub fn judge_carrier(
     requires { (at < length table.now) × (byte table.now at ≡ 6) }
     ensures { CarrierJudged table.now at terminals least (fault_or_zero result) }
 {
-    let size = table_fields::size_at(table, at);
-    if table_fields::LARGEST < size {
+    let Some(size) = table_fields::size_at(table, at) else {
         return Err(TableFault::CutShort);
-    }
+    };
     let from = at + 3;
     table_field_faults::carrier_fault(terminals, least, &table[from..from + size])
 }
 
 // All tag 6 fields from an offset on.
-pub fn read_carriers(table: &[u8], from: usize, terminals: usize) -> Result<Carried, RefusedCarrier>
+pub fn read_carriers(table: &[u8], from: usize, terminals: usize) -> Result<Carried, Refused>
     requires { (from ≤ length table.now) × (terminals ≤ terminals_limit) }
     ensures { CarriersRead table.now from terminals result }
 {
@@ -60,7 +54,7 @@ pub fn read_carriers(table: &[u8], from: usize, terminals: usize) -> Result<Carr
     let mut carrying = TokenSet::EMPTY;
     // Kept: a test of the field at hand, and no count, ends it.
     while is_carrier(table, at) {
-        judge_carrier(table, at, terminals, least).map_err(|fault| RefusedCarrier { fault, at })?;
+        judge_carrier(table, at, terminals, least).map_err(|fault| Refused { fault, at })?;
         let terminal = table[at + 3];
         carrying = carrying.union(TokenSet::of_token(terminal));
         least = usize::from(terminal) + 1;

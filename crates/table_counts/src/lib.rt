@@ -18,10 +18,9 @@ pub fn judge_header(table: &[u8]) -> Result<(), TableFault>
     if table.is_empty() {
         return Err(TableFault::OutOfOrder);
     }
-    let size = table_fields::size_at(table, 0);
-    if table_fields::LARGEST < size {
+    let Some(size) = table_fields::size_at(table, 0) else {
         return Err(TableFault::CutShort);
-    }
+    };
     if table[0] != 1 {
         return Err(TableFault::OutOfOrder);
     }
@@ -43,10 +42,9 @@ pub fn judge_counts(
     if table.len() <= at {
         return Err(TableFault::OutOfOrder);
     }
-    let size = table_fields::size_at(table, at);
-    if table_fields::LARGEST < size {
+    let Some(size) = table_fields::size_at(table, at) else {
         return Err(TableFault::CutShort);
-    }
+    };
     if table[at] != 2 {
         return Err(TableFault::OutOfOrder);
     }

@@ -1,7 +1,7 @@
 // The fields of a table, and the faults of tag 3. The definitions of all faults of tags 1 to 3 and 6 are here.
 #![tactic(auto)]
 
-ghost use Rattle.std.specs.Prelude.{◌≡◌, ◌+◌, ◌<◌, ◌≤◌, length};
+ghost use Rattle.std.specs.Prelude.{◌≡◌, ◌+◌, ◌<◌, ◌≤◌, length, IfNone, IfSome};
 ghost use Rattle.table_fields.specs.Field.{Whole, Short};
 ghost use Rattle.table_fields.specs.Judge.{head_fault};
 ghost use Rattle.refusals.specs.Numbers.{fault_or_zero};
@@ -15,26 +15,27 @@ pub fn wide(x: u8) -> usize
     x as usize
 }
 
-// The largest size that the two bytes of a field can say; CUT_SHORT stands for that of a field cut short.
-pub const LARGEST: usize = 65535;
-
-const CUT_SHORT: usize = LARGEST + 1;
-
-// The size of the body of the field at an offset; 65,536 where the field is cut short.
-pub fn size_at(table: &[u8], at: usize) -> usize
+// The size of the body of the field at an offset; none where the field is cut short.
+#[tactic(auto, unfolding(crate::specs::Field::length_at))]
+pub fn size_at(table: &[u8], at: usize) -> Option<usize>
     requires { at ≤ length table.now }
-    ensures whole { result < 65536 → Whole table.now at result }
-    ensures short { 65536 ≤ result → Short table.now at }
+    ensures whole { IfSome result (λ size. Whole table.now at size) }
+    ensures small { IfSome result (λ size. size < 65536) }
+    ensures short { IfNone result (Short table.now at) }
 {
     let left = table.len() - at;
     if left < 3 {
-        return CUT_SHORT;
+        return None;
     }
-    let size = wide(table[at + 1]) * 256 + wide(table[at + 2]);
-    if left - 3 < size {
-        return CUT_SHORT;
-    }
-    size
+    let size = usize::from(table[at + 1]) * 256 + usize::from(table[at + 2]);
+    if left - 3 < size { None } else { Some(size) }
+}
+
+// A field that is refused: its fault, and where it stands.
+#[derive(Clone, Copy, Debug, PartialEq, Eq)]
+pub struct Refused {
+    pub fault: TableFault,
+    pub at: usize,
 }
 
 // The lowest fault of the body of a tag 3 field after p others, but for its symbols on the right.
@@ -45,11 +46,11 @@ pub fn head_fault(nonterminals: usize, p: usize, body: &[u8]) -> Result<(), Tabl
     if body.len() < 2 {
         return Err(TableFault::OutsideLimits);
     }
-    let right = wide(body[1]);
+    let right = usize::from(body[1]);
     if SYMBOLS < right || body.len() != 2 + right || PRODUCTIONS <= p {
         return Err(TableFault::OutsideLimits);
     }
-    if nonterminals <= wide(body[0]) {
+    if nonterminals <= usize::from(body[0]) {
         return Err(TableFault::Unknown);
     }
     Ok(())

@@ -19,15 +19,20 @@ use Rattle.table_rules.specs.Note.{Notes, rules_after, GapsAnswered}
 use Rattle.table_rule_fields.proofs.RuleJudged.{rule_judged}
 use Rattle.table_rule_fields.proofs.conditions.ConditionJudged.{condition_judged}
 use Rattle.table_rule_fields.proofs.note.Noting.{notes_fine}
-use Rattle.std.specs.Prelude.{Result, Err, IfOk}
+use Rattle.std.specs.Prelude.{Result, Ok, Err, IfOk}
+use Rattle.std.specs.Result.{result_and}
 use Rattle.refusals.specs.declared.TableFault.{TableFault}
-use Rattle.refusals.specs.Numbers.{fault_number}
+use Rattle.refusals.specs.Numbers.{fault_number, fault_or_zero}
 use Rattle.table_rules.proofs.Faults.{fault_some}
 use Rattle.table_items.specs.declared.Items.{Items}
-use Rattle.table_items.specs.declared.Refused.{Refused}
+use Rattle.table_fields.specs.declared.Refused.{Refused}
 use Rattle.table_items.specs.Progress.{Over, Setting, setting_of, Around, state_in, ItemTaken, Walked, Walking, ItemsRead, OneRead, ItemRead, Next, end_of, place_of}
 use Rattle.table_counts.proofs.Steps.{end_by}
 use Rattle.table_fields.proofs.Cases.{lt_or_le, nonzero}
+
+pub fault_kept : {A B : Type 0} (r : Result A TableFault) (x : B) → fault_or_zero (result_and r (Ok x)) ≡ fault_or_zero r
+fault_kept (Ok y) x = refl
+fault_kept (Err f) x = refl
 
 pub stage_any : (h : Header) (cs : List Counts) (os ws : List ℕ) (e : Entry) (es : List Entry) (r c : ℕ) → h.nonterminals ≤ length cs → stage (state_of h cs os ws (e ∷ es) r c) ≡ at_any
 stage_any h cs os ws e es r c l =
@@ -274,23 +279,29 @@ module _ (t : List ℕ) (done : Items) (size width : ℕ) (inh syn note note' : 
   start_here : (offset : ℕ) → Walking t done.at offset width inh syn done.rules done.conditions note note done.at done.rules done.conditions
   start_here offset = walk_start t done.at offset width inh syn done.rules done.conditions note (omega arith) rules conditions
 
-  pub item_refused : (f : TableFault) → number ≡ fault_number f → ItemRead t done width inh syn note note' (Err (record { fault = f; at = done.at }))
-  item_refused f e = ((λ offset. walk_refused t _ offset width inh syn _ _ note note _ _ _ (start_here offset) size note' number j f e), omega arith)
+  pub item_refused : (x : Refused) → number ≡ fault_number x.fault → x.at ≡ done.at → ItemRead t done width inh syn note note' (Err x)
+  item_refused x e q =
+      subst
+      (λ (o : ℕ). ItemRead t done width inh syn note note' (Err (record { fault = x.fault; at = o })))
+      (sym q)
+      ((λ offset. walk_refused t _ offset width inh syn _ _ note note _ _ _ (start_here offset) size note' number j x.fault e), omega arith)
 
-  module _ (fine : number ≡ 0) where
+  module _ (fine : number ≡ 0) (end : ℕ) (ends : end ≡ done.at + 3 + size) where
     further : done.at < done.at + 3 + size
     further = omega arith
 
-    pub item_rule : byte t done.at ≡ 4 → OneRead t done width inh syn note note' (record { at = done.at + 3 + size; rules = done.rules + 1; conditions = done.conditions })
+    pub item_rule : byte t done.at ≡ 4 → OneRead t done width inh syn note note' (record { at = end; rules = done.rules + 1; conditions = done.conditions })
     item_rule tag =
+        rw ends
         record {
           onward = λ offset. walk_rule t _ offset width inh syn _ _ note note _ _ _ (start_here offset) size note' number j fine tag;
           further = further;
           inside = (j.whole fine).inside;
         }
 
-    pub item_condition : (byte t done.at ≡ 4 → ⊥) → OneRead t done width inh syn note note' (record { at = done.at + 3 + size; rules = done.rules; conditions = done.conditions + 1 })
+    pub item_condition : (byte t done.at ≡ 4 → ⊥) → OneRead t done width inh syn note note' (record { at = end; rules = done.rules; conditions = done.conditions + 1 })
     item_condition n =
+        rw ends
         record {
           onward = λ offset. walk_condition t _ offset width inh syn _ _ note note _ _ _ (start_here offset) size note' number j fine n;
           further = further;

@@ -3,16 +3,12 @@ use Rattle.std.specs.Prelude.{ℕ, ◌+◌, ◌≤◌, ◌<◌, ◌≡◌, Bool,
 use Rattle.meaning.specs.Grammar.{Counts, Symbol, Rule, Condition, Occurrence}
 use Rattle.meaning.specs.Table.{byte, Header, State, Entry, malformed, current, last_complete, read_field, kind_of}
 use Rattle.table_fields.specs.Reads.{state_of, entry_of}
-use Rattle.table_fields.specs.Field.{Whole, Short, rest, judged, body_at}
+use Rattle.table_fields.specs.Field.{Whole, rest, judged, body_at}
 use Rattle.table_rules.specs.Note.{Placed, Notes}
 use Rattle.table_items.specs.declared.Items.{Items}
-use Rattle.table_items.specs.declared.Refused.{Refused}
+use Rattle.table_fields.specs.declared.Refused.{Refused}
 use Rattle.refusals.specs.declared.TableFault.TheVariants.{NotOneRule}
 use Rattle.refusals.specs.Numbers.{fault_number}
-
--- the size that `size_at` gives
-abbrev pub Sized : List ℕ → ℕ → ℕ → Type 0
-Sized t at size = (size < 65536 → Whole t at size) × (65536 ≤ size → Short t at)
 
 -- the production is over: its table is, or a tag byte 3 follows
 abbrev pub Over : List ℕ → ℕ → Type 0

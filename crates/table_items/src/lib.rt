@@ -1,14 +1,16 @@
 // The tag 4 and tag 5 fields of one production, with the note of the occurrences set.
 #![tactic(auto)]
 
-ghost use Rattle.std.specs.Prelude.{◌≡◌, true, false, ◌<◌, ◌≤◌, length, IfOk};
+ghost use Rattle.std.specs.Prelude.{◌≡◌, true, false, ◌+◌, ◌<◌, ◌≤◌, length, IfOk};
 ghost use Rattle.refusals.specs.Numbers.{fault_or_zero};
 ghost use Rattle.meaning.specs.Table.{byte};
+ghost use Rattle.table_fields.specs.Field.{length_at};
 ghost use Rattle.table_rules.specs.Rule.{Small};
-ghost use Rattle.table_items.specs.Progress.{Sized, Over, setting_of, ItemTaken, ItemsReadFrom, ItemRead, Next, end_of, place_of};
+ghost use Rattle.table_items.specs.Progress.{Over, setting_of, ItemTaken, ItemsReadFrom, ItemRead, Next, end_of, place_of};
 
 use limits::POSITIONS;
 use refusals::TableFault;
+use table_fields::Refused;
 use table_rule_fields::conditions::condition_fault;
 use table_rule_fields::take_rule;
 
@@ -20,44 +22,38 @@ pub struct Items {
     pub conditions: usize,
 }
 
-// A field that is refused: its fault, and where it stands.
-#[derive(Clone, Copy, Debug, PartialEq, Eq)]
-pub struct Refused {
-    pub fault: TableFault,
-    pub at: usize,
-}
-
 // Whether the table is over or a tag byte 3 follows.
 fn is_over(table: &[u8], at: usize) -> bool
     requires { at ≤ length table.now }
     ensures over { result ≡ true → Over table.now at }
     ensures more { result ≡ false → (at < length table.now) × (byte table.now at ≡ 3 → ⊥) }
 {
-    table.len() <= at || table_fields::wide(table[at]) == 3
+    table.len() <= at || table[at] == 3
 }
 
-// Takes the rule or condition behind what was read before, or tells its fault; what a rule sets is noted.
+// Takes the rule or condition behind what was read before and tells where it ends, or its fault; what a rule sets is noted.
+#[tactic(auto, using(crate::proofs::Walking::use_cut, crate::proofs::Walking::use_other))]
 pub fn take_item(
     table: &[u8],
     done: Items,
-    size: usize,
     width: usize,
     inh: &[u8; POSITIONS],
     syn: &[u8; POSITIONS],
     note: &mut [u8; POSITIONS],
-) -> Result<(), TableFault>
-    requires { (done.at < length table.now) × (byte table.now done.at ≡ 3 → ⊥) × Sized table.now done.at size × Small width inh.now syn.now }
-    ensures { ItemTaken table.now done.at size done.rules done.conditions width inh.now syn.now note.old note.new (fault_or_zero result) }
+) -> Result<usize, TableFault>
+    requires { (done.at < length table.now) × (byte table.now done.at ≡ 3 → ⊥) × Small width inh.now syn.now }
+    ensures taken { ItemTaken table.now done.at (length_at table.now done.at) done.rules done.conditions width inh.now syn.now note.old note.new (fault_or_zero result) }
+    ensures end { IfOk result (λ end. end ≡ done.at + 3 + length_at table.now done.at) }
 {
-    if table_fields::LARGEST < size {
+    let Some(size) = table_fields::size_at(table, done.at) else {
         return Err(TableFault::CutShort);
-    }
+    };
     let from = done.at + 3;
     let end = from + size;
     let body = &table[from..end];
-    match table_fields::wide(table[done.at]) {
-        4 => take_rule(done.rules, width, inh, syn, note, body),
-        5 => condition_fault(done.conditions, width, inh, syn, body),
+    match table[done.at] {
+        4 => take_rule(done.rules, width, inh, syn, note, body).and(Ok(end)),
+        5 => condition_fault(done.conditions, width, inh, syn, body).and(Ok(end)),
         _ => Err(TableFault::OutOfOrder),
     }
 }
@@ -74,12 +70,11 @@ fn read_item(
     requires { (done.at < length table.now) × (byte table.now done.at ≡ 3 → ⊥) × Small width inh.now syn.now × (done.rules ≤ done.at) × (done.conditions ≤ done.at) }
     ensures { ItemRead table.now done width inh.now syn.now note.old note.new result }
 {
-    let size = table_fields::size_at(table, done.at);
-    if let Err(fault) = take_item(table, done, size, width, inh, syn, note) {
-        return Err(Refused { fault, at: done.at });
-    }
-    let at = done.at + 3 + size;
-    if table_fields::wide(table[done.at]) == 4 {
+    let at = take_item(table, done, width, inh, syn, note).map_err(|fault| Refused {
+        fault,
+        at: done.at,
+    })?;
+    if table[done.at] == 4 {
         let rules = done.rules + 1;
         Ok(Items { at, rules, ..done })
     } else {

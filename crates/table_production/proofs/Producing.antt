@@ -29,7 +29,7 @@ use Rattle.table_rules.specs.Rule.{Small}
 use Rattle.table_rules.specs.Note.{symbol_in}
 use Rattle.std.specs.Prelude.{Result, Ok, Err, IfOk}
 use Rattle.table_items.specs.declared.Items.{Items}
-use Rattle.table_items.specs.declared.Refused.{Refused}
+use Rattle.table_fields.specs.declared.Refused.{Refused}
 use Rattle.table_counts.specs.Counted.{SmallCounts, counts_up_to}
 use Rattle.outline.specs.Outline.{Carries}
 use Rattle.table.specs.Laid.{Numbered}

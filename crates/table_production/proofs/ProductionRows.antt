@@ -19,7 +19,7 @@ use Rattle.refusals.specs.declared.TableRefusal.{TableRefusal}
 use Rattle.refusals.specs.Numbers.{fault_number}
 use Rattle.table_rules.proofs.Faults.{fault_some}
 use Rattle.table_items.specs.declared.Items.{Items}
-use Rattle.table_items.specs.declared.Refused.{Refused}
+use Rattle.table_fields.specs.declared.Refused.{Refused}
 use Rattle.table_counts.specs.Counted.{header_in, counts_up_to, offsets_up_to}
 use Rattle.outline.specs.Outline.{Carries}
 use Rattle.table.specs.Laid.{named, RowOf, Laid}

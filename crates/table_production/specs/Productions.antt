@@ -16,7 +16,7 @@ use Rattle.table_rules.specs.Note.{symbol_in}
 use Rattle.outline.specs.declared.Sizes.{Sizes}
 use Rattle.outline.specs.Outline.{Carries}
 use Rattle.table_items.specs.declared.Items.{Items}
-use Rattle.table_items.specs.declared.Refused.{Refused}
+use Rattle.table_fields.specs.declared.Refused.{Refused}
 use Rattle.table_counts.specs.Counted.{SmallCounts, counts_up_to}
 use Rattle.outline.specs.Counts.{count_at_value, synthesized_at}
 use Rattle.table_carriers.specs.Named.{NoCarrier}

@@ -16,22 +16,23 @@ use limits::{NONTERMINALS, POSITIONS, PRODUCTIONS, ROWS};
 use nonterminal_set::NonterminalSet;
 use outline::Sizes;
 use refusals::{TableFault, TableRefusal};
-use table_items::{Items, Refused, read_items};
+use table_fields::Refused;
+use table_items::{Items, read_items};
 use table_occurrence_words::read_right;
 use table_rows::place_counts;
 use table_sound_items::{all_settled, walk};
 use token_set::TokenSet;
 
 // The lowest fault of the field of production p, but for its symbols on the right.
+#[tactic(auto, using(crate::proofs::Producing::head_cut, crate::proofs::Producing::head_right, table_counts::proofs::Steps::part_body))]
 fn judge_head(table: &[u8], at: usize, p: usize, nonterminals: usize) -> Result<(), TableFault>
     requires { (at < length table.now) × (0 < p → byte table.now at ≡ 3) × (byte table.now at ≡ 6 → ⊥) }
     ensures { HeadJudged table.now at p nonterminals (fault_or_zero result) }
 {
-    let size = table_fields::size_at(table, at);
-    if table_fields::LARGEST < size {
+    let Some(size) = table_fields::size_at(table, at) else {
         return Err(TableFault::CutShort);
-    }
-    if table_fields::wide(table[at]) != 3 {
+    };
+    if table[at] != 3 {
         return Err(TableFault::OutOfOrder);
     }
     let from = at + 3;

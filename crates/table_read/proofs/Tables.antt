@@ -13,22 +13,19 @@ use Rattle.table_fields.specs.Field.{rest}
 use Rattle.table_fields.proofs.Rest.{rest_table, judged_fine, judged_refused}
 use Rattle.outline.specs.declared.Sizes.{Sizes}
 use Rattle.table_carriers.specs.declared.Carried.{Carried}
-use Rattle.table_carriers.specs.declared.RefusedCarrier.{RefusedCarrier}
+use Rattle.table_fields.specs.declared.Refused.{Refused}
 use Rattle.table_counts.specs.Refused.{number_in, offset_in}
 use Rattle.table_counts.specs.Counted.{header_in, counts_up_to, offsets_up_to, counted, HeaderJudged, CountsRead}
 use Rattle.table_counts.proofs.Faulty.{faulty}
 use Rattle.table.specs.Laid.{named}
 use Rattle.table_carriers.specs.Named.{CarriersDone, CarrierRefused}
 use Rattle.table_production.specs.Productions.{HeaderRead, Begun}
-use Rattle.table.specs.Answer.{Answers, AnswersFrom, Worded}
+use Rattle.table.specs.Answer.{Answers, AnswersFrom}
 use Rattle.table_counts.proofs.Counting.{length_counts}
 
 -- an answer that is a refusal
 pub refused_reads : (q : Result Sizes TableRefusal) (e : TableRefusal) → q ≡ Err e → (inherited synthesized rows offsets : List ℕ) (x : Read) → x ≡ malformed (fault_number e.fault) e.offset → Answers q inherited synthesized rows offsets x
 refused_reads q e i inherited synthesized rows offsets x r = subst (λ z. Answers z inherited synthesized rows offsets x) (sym i) r
-
-pub refused_words : (q : Result Sizes TableRefusal) (e : TableRefusal) → q ≡ Err e → (rows words : List ℕ) → Worded q rows words
-refused_words q e i rows words = subst (λ z. Worded z rows words) (sym i) tt
 
 module _ (t : List ℕ) (short : length t ≤ table_limit) (number : ℕ) (h : HeaderJudged t number) where
   pub header_answer : (e : TableRefusal) → fault_number e.fault ≡ number → e.offset ≡ 0 → read_table t ≡ malformed (fault_number e.fault) e.offset
@@ -55,7 +52,7 @@ module _ (t : List ℕ) (short : length t ≤ table_limit) (number : ℕ) (h : H
 -- ---- from the last tag 2 field on
 
 module _ (t : List ℕ) (sizes : Sizes) (inherited synthesized : List ℕ) (ready : HeaderRead t sizes inherited synthesized) where
-  pub carriers_refused : (e : RefusedCarrier) → CarrierRefused t (7 + 5 * sizes.nonterminals) sizes.terminals e
+  pub carriers_refused : (e : Refused) → CarrierRefused t (7 + 5 * sizes.nonterminals) sizes.terminals e
       → rest t (counted t inherited synthesized sizes.nonterminals) (7 + 5 * sizes.nonterminals) ≡ malformed (fault_number e.fault) e.at
   carriers_refused e r =
       r.read (header_in t) (counts_up_to inherited synthesized sizes.nonterminals) (offsets_up_to sizes.nonterminals) (sym ready.terminals)

@@ -26,11 +26,10 @@ pub fn past_field(table: &[u8], at: usize) -> usize
     if table.len() <= at {
         return table.len();
     }
-    let size = table_fields::size_at(table, at);
-    if table_fields::LARGEST < size {
-        table.len()
-    } else {
+    if let Some(size) = table_fields::size_at(table, at) {
         at + 3 + size
+    } else {
+        table.len()
     }
 }
 

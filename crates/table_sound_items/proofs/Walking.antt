@@ -19,13 +19,13 @@ use Rattle.table_rule_fields.proofs.note.Gaps.{gaps_answered}
 use Rattle.table_rule_fields.proofs.Sound.{output_left, output_right}
 use Rattle.table_rows.specs.RowWritten.{symbol_byte, Written}
 use Rattle.outline.specs.Counts.{count_at_value, synthesized_at}
-use Rattle.table_items.specs.Progress.{setting_of, Walked, Walking}
+use Rattle.table_items.specs.Progress.{Over, setting_of, Walked, Walking}
 use Rattle.table_items.proofs.Walking.{use_rule, use_condition, walk_start, walk_rule, walk_condition, walk_over}
 use Rattle.table_occurrences.specs.OccurrenceBits.{input_word, other_word, Filled, Inputs, Settled, noted_by}
 use Rattle.table_occurrences.proofs.Ranges.{full}
 use Rattle.table_occurrences.proofs.Laws.{inputs_placed, settled_placed}
 use Rattle.theory_base.specs.Members.{counted_all}
-use Rattle.table_sound_items.specs.Sound.{RuleStands, ConditionStands, WordsSettled, Sounding, Over, done, BodySound, BodyTaken}
+use Rattle.table_sound_items.specs.Sound.{RuleStands, ConditionStands, WordsSettled, Sounding, done, BodySound, BodyTaken}
 
 -- ---- the loop
 

@@ -54,10 +54,6 @@ pub record Sounding (t : List ℕ) (from r₀ c₀ : ℕ) (inputs words₀ words
       → Walked (setting_of t offset width inh syn) from r₀ c₀ note at r c
   pub settled : (width : ℕ) (inh syn : List ℕ) → Small width inh syn → Inputs width inh syn inputs → Settled width inh syn (replicate positions_limit 0) words₀ → Settled width inh syn note words
 
--- the production is over: its table is, or a tag byte 3 follows
-abbrev pub Over : List ℕ → ℕ → Type 0
-Over t at = at < length t → byte t at ≡ 3
-
 abbrev pub done : ℕ → ℕ → ℕ → Items
 done at r c = record { at = at; rules = r; conditions = c }
 

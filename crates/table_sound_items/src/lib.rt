@@ -7,7 +7,8 @@ ghost use Rattle.meaning.specs.Limits.{positions_limit, symbols_limit};
 ghost use Rattle.meaning.specs.Table.{byte};
 ghost use Rattle.table_fields.specs.Field.{Whole};
 ghost use Rattle.table_rules.specs.Rule.{length_of};
-ghost use Rattle.table_sound_items.specs.Sound.{RuleSound, RuleStands, ConditionSound, ConditionStands, Sounding, WordsSettled, AllFull, Over, stop_of};
+ghost use Rattle.table_items.specs.Progress.{Over};
+ghost use Rattle.table_sound_items.specs.Sound.{RuleSound, RuleStands, ConditionSound, ConditionStands, Sounding, WordsSettled, AllFull, stop_of};
 
 use limits::{CONDITIONS, POSITIONS, RULES};
 use table_items::Items;

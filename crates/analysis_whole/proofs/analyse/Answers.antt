@@ -16,7 +16,7 @@ returns-in-Some c =
 pub returns-in-Some-left_recursive : goal.returns-in-Some-left_recursive
 returns-in-Some-left_recursive c =
     λ g r n s.
-    let d = recursive_found r _ (Some c.in-Some-left_recursive.index) _ (nullable_marks r _ c.nullable-null.ensures) (c.fronts.ensures.led (rw n (below r))) (rw n at c.in-Some-left_recursive.ensures) in
+    let d = recursive_found r _ (Some c.in-Some-left_recursive.nonterminal) _ (nullable_marks r _ c.nullable-null.ensures) (c.fronts.ensures.led (rw n (below r))) (rw n at c.in-Some-left_recursive.ensures) in
     found_recursive g _ _ (found_no_lowest _ _ (c.in_default.ensures g r n s)) (le_refl _) _ (found_some_lowest _ _ _ d) d.0
 
 pub returns : goal.returns

@@ -31,14 +31,14 @@ bounds-seen-at c =
 pub loop-rival-init : goal.loop-rival-init
 loop-rival-init c =
     let few : c.args.count ≤ productions_limit = (image_of c.requires.0.productions.rows_of).few in
-    let keeping : KeptTo c.args.table.now c.args.rows.now c.args.met.0 c.keep.new.lows c.keep.new.highs (ranks_of c.keep.new.ranks) (c.loop-later.later + 1) =
+    let keeping : KeptTo c.args.table.now c.args.rows.now c.args.met.0 c.keep.new.kept.lows c.keep.new.kept.highs (ranks_of c.keep.new.kept.ranks) (c.loop-later.later + 1) =
     kept_next (omega (arith, few, c.loop-later-test.true)) c.loop-later.invariant.2 _ (rw c.left_of-left.ensures at c.has-on.ensures) c.keep.ensures in
     first_known c.requires.0 c.requires.1 _ keeping c.loop-later-test.true _ c.loop-later.invariant.0 _ (rw c.left_of-left.ensures at c.first_rival-rival.ensures)
 
 pub enters_together-requires : goal.enters_together-requires
 enters_together-requires c =
     let few : c.args.count ≤ productions_limit = (image_of c.requires.0.productions.rows_of).few in
-    let keeping : KeptTo c.args.table.now c.args.rows.now c.args.met.0 c.keep.new.lows c.keep.new.highs (ranks_of c.keep.new.ranks) (c.loop-later.later + 1) =
+    let keeping : KeptTo c.args.table.now c.args.rows.now c.args.met.0 c.keep.new.kept.lows c.keep.new.kept.highs (ranks_of c.keep.new.kept.ranks) (c.loop-later.later + 1) =
     kept_next (omega (arith, few, c.loop-later-test.true)) c.loop-later.invariant.2 _ (rw c.left_of-left.ensures at c.has-on.ensures) c.keep.ensures in
     let w = rw c.in-Some.is at c.loop-rival.invariant in
     let listed : c.in-Some.earlier < c.args.count = omega (arith, w.0, c.loop-later-test.true) in
@@ -57,7 +57,7 @@ returns-then-enters_together c =
 pub loop-rival-preserved : goal.loop-rival-preserved
 loop-rival-preserved c =
     let few : c.args.count ≤ productions_limit = (image_of c.requires.0.productions.rows_of).few in
-    let keeping : KeptTo c.args.table.now c.args.rows.now c.args.met.0 c.keep.new.lows c.keep.new.highs (ranks_of c.keep.new.ranks) (c.loop-later.later + 1) =
+    let keeping : KeptTo c.args.table.now c.args.rows.now c.args.met.0 c.keep.new.kept.lows c.keep.new.kept.highs (ranks_of c.keep.new.kept.ranks) (c.loop-later.later + 1) =
     kept_next (omega (arith, few, c.loop-later-test.true)) c.loop-later.invariant.2 _ (rw c.left_of-left.ensures at c.has-on.ensures) c.keep.ensures in
     let w = rw c.in-Some.is at c.loop-rival.invariant in
     let listed : c.in-Some.earlier < c.args.count = omega (arith, w.0, c.loop-later-test.true) in
@@ -74,7 +74,7 @@ pub loop-later-preserved : goal.loop-later-preserved
 loop-later-preserved c =
     let below : left_at c.args.rows.now c.loop-later.later < nonterminals_limit = (image_of c.requires.0.productions.rows_of).lefts _ c.loop-later-test.true in
     let few : c.args.count ≤ productions_limit = (image_of c.requires.0.productions.rows_of).few in
-    let keeping : KeptTo c.args.table.now c.args.rows.now c.args.met.0 c.keep.new.lows c.keep.new.highs (ranks_of c.keep.new.ranks) (c.loop-later.later + 1) =
+    let keeping : KeptTo c.args.table.now c.args.rows.now c.args.met.0 c.keep.new.kept.lows c.keep.new.kept.highs (ranks_of c.keep.new.kept.ranks) (c.loop-later.later + 1) =
     kept_next (omega (arith, few, c.loop-later-test.true)) c.loop-later.invariant.2 _ (rw c.left_of-left.ensures at c.has-on.ensures) c.keep.ensures in
     let none : ◌≡◌ {A = Option ℕ} c.loop-rival.rival None = search rules in
     let inv = c.loop-later.invariant in

@@ -8,10 +8,10 @@ use Rattle.clash.proofs.Laws.{Ahead, to_look_at}
 use Rattle.clash.proofs.lowest_by_entry.Given as goal
 
 abbrev pub invariant-loop-rival : goal.invariant-loop-rival
-invariant-loop-rival l = Ahead (clash_in l.table l.later) (rival l.rows l.sets l.lows l.highs (ranks_of l.ranks) l.later) l.later l.rival
+invariant-loop-rival l = Ahead (clash_in l.table l.later) (rival l.rows l.sets l.kept.lows l.kept.highs (ranks_of l.kept.ranks) l.later) l.later l.rival
 
 abbrev pub decreases-loop-rival : goal.decreases-loop-rival
 decreases-loop-rival l = to_look_at l.later l.rival
 
 abbrev pub invariant-loop-later : goal.invariant-loop-later
-invariant-loop-later l = Seen l.rows l.sets l.later l.seen × Clear (clashes (grammar_in l.table)) l.later × KeptTo l.table l.rows l.met.0 l.lows l.highs (ranks_of l.ranks) l.later
+invariant-loop-later l = Seen l.rows l.sets l.later l.seen × Clear (clashes (grammar_in l.table)) l.later × KeptTo l.table l.rows l.met.0 l.kept.lows l.kept.highs (ranks_of l.kept.ranks) l.later

@@ -6,4 +6,4 @@ use Rattle.clash_rivals.specs.Rivals.{rival}
 use Rattle.clash_rivals.proofs.next_rival.Given as goal
 
 abbrev pub invariant-loop-earlier : goal.invariant-loop-earlier
-invariant-loop-earlier l = (j : ℕ) → l.from ≤ j → j < l.earlier → rival l.rows l.sets l.lows l.highs (ranks_of l.ranks) l.later j ≡ false
+invariant-loop-earlier l = (j : ℕ) → l.from ≤ j → j < l.earlier → rival l.rows l.sets l.kept.lows l.kept.highs (ranks_of l.kept.ranks) l.later j ≡ false

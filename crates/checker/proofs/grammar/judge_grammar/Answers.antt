@@ -1,66 +1,59 @@
 use native.Mathlib.Omega.{arith}
-use Prim.Native.Nat.{ℕ, ◌<◌}
+use Prim.Native.Nat.{ℕ, ◌+◌, ◌*◌, ◌<◌}
 use mathlib.Core.List.{List}
+use Rattle.std.proofs.Common.{◌≡◌, ap, subst}
+use Rattle.std.proofs.lemmas.Grind.{common_steps}
+use Rattle.std.proofs.lemmas.Result.{err_from_is_err_and}
 use Rattle.meaning.specs.Limits.{nonterminals_limit}
-use Rattle.refusals.specs.declared.TableFault.TheVariants.{Useless, LeftRecursive}
+use Rattle.refusals.specs.Numbers.{fault_number}
 use Rattle.outline.specs.declared.Sizes.{Sizes}
 use Rattle.outline.specs.Images.{image_of}
 use Rattle.outline.specs.Outline.{grammar_in, NumbersOf, Productions}
 use Rattle.analysis.specs.Finding.{Analysed}
+use Rattle.analysis_whole.specs.Flaws.{flaw_number, flawed}
 use Rattle.clash.specs.Placing.{bytes_of}
-use Rattle.checker.proofs.grammar.Concluding.{index_small, flaw_number, flaw_concludes, clash_concludes, none_concludes}
+use Rattle.checker.proofs.grammar.Concluding.{index_small, flaw_concludes, clash_concludes, none_concludes}
 use Rattle.checker.proofs.grammar.judge_grammar.Goals as goal
 
 start_small : {t rows offsets : List ℕ} {sizes : Sizes} → Productions t rows offsets sizes.productions → NumbersOf sizes (grammar_in t) → sizes.start < nonterminals_limit
 start_small x n = omega (arith, n.start, x.rows_of.sound.start, x.rows_of.narrow)
 
-pub analyse-a-requires : goal.analyse-a-requires
-analyse-a-requires c = let x = c.requires.0 in let n = c.requires.1 in (image_of x.rows_of, omega (arith, n.nonterminals, x.rows_of.narrow), start_small x n, c.requires.2)
+pub analyse-requires : goal.analyse-requires
+analyse-requires c = let x = c.requires.0 in let n = c.requires.1 in (image_of x.rows_of, omega (arith, n.nonterminals, x.rows_of.narrow), start_small x n, c.requires.2)
 
-pub overflow_mul-offset : goal.overflow_mul-offset
-overflow_mul-offset c =
+pub map_err-requires : goal.map_err-requires
+map_err-requires c =
+    λ e q.
     let listed : Productions c.args.table.now c.args.rows.now c.args.offsets.now c.args.sizes.productions = c.requires.0 in
-    let analysed : Analysed (grammar_in c.args.table.now) c.analyse-a.result.number c.analyse-a.result.index c.analyse-a.new.sets = let n = c.requires.1 in c.analyse-a.ensures _ listed.rows_of n.nonterminals n.start in
-    omega (arith, index_small _ c.args.sizes _ _ listed _ _ _ analysed)
+    let analysed : Analysed (grammar_in c.args.table.now) (flaw_number c.analyse.result) (flawed c.analyse.result) c.analyse.new.sets = let n = c.requires.1 in c.analyse.ensures _ listed.rows_of n.nonterminals n.start in
+    subst (λ m. m < nonterminals_limit) (ap flawed q) (index_small _ c.args.sizes _ _ listed _ _ _ analysed)
 
-pub overflow_add-offset : goal.overflow_add-offset
-overflow_add-offset c =
+pub returns-in_err-map_err : goal.returns-in_err-map_err
+returns-in_err-map_err c =
     let listed : Productions c.args.table.now c.args.rows.now c.args.offsets.now c.args.sizes.productions = c.requires.0 in
-    let analysed : Analysed (grammar_in c.args.table.now) c.analyse-a.result.number c.analyse-a.result.index c.analyse-a.new.sets = let n = c.requires.1 in c.analyse-a.ensures _ listed.rows_of n.nonterminals n.start in
-    omega (arith, index_small _ c.args.sizes _ _ listed _ _ _ analysed)
+    let analysed : Analysed (grammar_in c.args.table.now) (flaw_number c.analyse.result) (flawed c.analyse.result) c.analyse.new.sets = let n = c.requires.1 in c.analyse.ensures _ listed.rows_of n.nonterminals n.start in
+    let p = err_from_is_err_and c.from_residual.result c.from_residual.ensures.1 in
+    let number : fault_number p.0.fault ≡ flaw_number c.analyse.result = grind (arith, common_steps) in
+    let offset : p.0.offset ≡ 7 + 5 * flawed c.analyse.result = grind (arith, common_steps) in
+    rw p.1 (flaw_concludes _ c.args.sizes _ _ listed _ _ _ analysed p.0 number offset)
 
-pub overflow_cast-offset : goal.overflow_cast-offset
-overflow_cast-offset c =
+pub lowest_clash-requires : goal.lowest_clash-requires
+lowest_clash-requires c =
     let listed : Productions c.args.table.now c.args.rows.now c.args.offsets.now c.args.sizes.productions = c.requires.0 in
-    let analysed : Analysed (grammar_in c.args.table.now) c.analyse-a.result.number c.analyse-a.result.index c.analyse-a.new.sets = let n = c.requires.1 in c.analyse-a.ensures _ listed.rows_of n.nonterminals n.start in
-    omega (arith, index_small _ c.args.sizes _ _ listed _ _ _ analysed)
+    let analysed : Analysed (grammar_in c.args.table.now) (flaw_number c.analyse.result) (flawed c.analyse.result) c.analyse.new.sets = let n = c.requires.1 in c.analyse.ensures _ listed.rows_of n.nonterminals n.start in
+    let fine : flaw_number c.analyse.result ≡ 0 = grind (arith, common_steps) in
+    record { is_bytes = bytes_of c.args.table.now (λ i. omega (arith, c.type_inv.table i)); productions = listed; starting = λ p l. analysed.starting fine p (omega (arith, listed.rows_of.counted)) }
 
-pub returns-then-a-eq11 : goal.returns-then-a-eq11
-returns-then-a-eq11 c =
+pub returns-in-Some : goal.returns-in-Some
+returns-in-Some c =
     let listed : Productions c.args.table.now c.args.rows.now c.args.offsets.now c.args.sizes.productions = c.requires.0 in
-    let analysed : Analysed (grammar_in c.args.table.now) c.analyse-a.result.number c.analyse-a.result.index c.analyse-a.new.sets = let n = c.requires.1 in c.analyse-a.ensures _ listed.rows_of n.nonterminals n.start in
-    flaw_concludes _ c.args.sizes _ _ listed _ _ _ analysed (omega arith) Useless (omega arith)
+    let analysed : Analysed (grammar_in c.args.table.now) (flaw_number c.analyse.result) (flawed c.analyse.result) c.analyse.new.sets = let n = c.requires.1 in c.analyse.ensures _ listed.rows_of n.nonterminals n.start in
+    let fine : flaw_number c.analyse.result ≡ 0 = grind (arith, common_steps) in
+    clash_concludes _ c.args.sizes _ _ listed _ _ _ analysed fine _ c.in-Some.ensures
 
-pub returns-else-a-eq11 : goal.returns-else-a-eq11
-returns-else-a-eq11 c =
+pub returns-in-None : goal.returns-in-None
+returns-in-None c =
     let listed : Productions c.args.table.now c.args.rows.now c.args.offsets.now c.args.sizes.productions = c.requires.0 in
-    let analysed : Analysed (grammar_in c.args.table.now) c.analyse-a.result.number c.analyse-a.result.index c.analyse-a.new.sets = let n = c.requires.1 in c.analyse-a.ensures _ listed.rows_of n.nonterminals n.start in
-    flaw_concludes _ c.args.sizes _ _ listed _ _ _ analysed (omega arith) LeftRecursive (omega (arith, flaw_number _ c.args.sizes _ _ listed _ _ _ analysed (omega arith) (omega arith)))
-
-pub lowest_clash-p-requires : goal.lowest_clash-p-requires
-lowest_clash-p-requires c =
-    let listed : Productions c.args.table.now c.args.rows.now c.args.offsets.now c.args.sizes.productions = c.requires.0 in
-    let analysed : Analysed (grammar_in c.args.table.now) c.analyse-a.result.number c.analyse-a.result.index c.analyse-a.new.sets = let n = c.requires.1 in c.analyse-a.ensures _ listed.rows_of n.nonterminals n.start in
-    record { is_bytes = bytes_of c.args.table.now (λ i. omega (arith, c.shared_slice_known-1.given i)); productions = listed; starting = λ p l. analysed.starting (omega arith) p (omega (arith, listed.rows_of.counted)) }
-
-pub returns-then-p-productions : goal.returns-then-p-productions
-returns-then-p-productions c =
-    let listed : Productions c.args.table.now c.args.rows.now c.args.offsets.now c.args.sizes.productions = c.requires.0 in
-    let analysed : Analysed (grammar_in c.args.table.now) c.analyse-a.result.number c.analyse-a.result.index c.analyse-a.new.sets = let n = c.requires.1 in c.analyse-a.ensures _ listed.rows_of n.nonterminals n.start in
-    clash_concludes _ c.args.sizes _ _ listed _ _ _ analysed (omega arith) _ c.lowest_clash-p.ensures c.if-p-productions.true
-
-pub returns : goal.returns
-returns c =
-    let listed : Productions c.args.table.now c.args.rows.now c.args.offsets.now c.args.sizes.productions = c.requires.0 in
-    let analysed : Analysed (grammar_in c.args.table.now) c.analyse-a.result.number c.analyse-a.result.index c.analyse-a.new.sets = let n = c.requires.1 in c.analyse-a.ensures _ listed.rows_of n.nonterminals n.start in
-    none_concludes _ c.args.sizes _ _ listed _ _ _ analysed (omega arith) _ c.lowest_clash-p.ensures c.if-p-productions.false _
+    let analysed : Analysed (grammar_in c.args.table.now) (flaw_number c.analyse.result) (flawed c.analyse.result) c.analyse.new.sets = let n = c.requires.1 in c.analyse.ensures _ listed.rows_of n.nonterminals n.start in
+    let fine : flaw_number c.analyse.result ≡ 0 = grind (arith, common_steps) in
+    none_concludes _ c.args.sizes _ _ listed _ _ _ analysed fine c.in-None.ensures _

@@ -1,0 +1,2 @@
+-- What the analysis of a grammar answers, as 01's number and a nonterminal
+pub mod Flaws
