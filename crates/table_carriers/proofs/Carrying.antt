@@ -1,6 +1,6 @@
 -- The tag 6 fields, one after the other, and the set of the terminals that they name.
 use Prim.Native.Nat.{ℕ, ◌+◌, ◌≤◌, ◌<◌}
-use mathlib.Core.Path.{◌≡◌, refl, sym, ◌∙◌, ap, ap₂}
+use mathlib.Core.Path.{◌≡◌, refl, sym, ◌∙◌, ap, ap₂, subst}
 use mathlib.Core.Bool.{Bool, true, false, ◌||◌}
 use mathlib.Core.List.{List, [], ◌∷◌, ◌++◌, reverse, reverse-cons}
 use native.Mathlib.Omega.{arith}
@@ -26,7 +26,7 @@ use Rattle.outline.specs.Outline.{Carries}
 use Rattle.theory_base.specs.Members.{eqb_both}
 use Rattle.refusals.specs.Numbers.{fault_number}
 use Rattle.table_counts.proofs.Faulty.{faulty}
-use Rattle.table_fields.specs.declared.Refused.{Refused}
+use Rattle.table_carriers.specs.declared.RefusedCarrier.{RefusedCarrier}
 use Rattle.table_carriers.specs.Named.{CarrierJudged, NoCarrier, CarriersDone, CarrierRefused}
 
 -- ---- one field
@@ -118,11 +118,14 @@ module _ (t : List ℕ) (from terminals : ℕ) where
 
   module _ (at least : ℕ) (set : TokenSet) (w : Carrying t from terminals at least set.0) where
     module _ (number : ℕ) (j : CarrierJudged t at terminals least number) where
-      pub carrying_refused : (r : Refused) → fault_number r.fault ≡ number → r.at ≡ at → CarrierRefused t from terminals r
-      carrying_refused r p q =
+      pub carrying_refused : (r : RefusedCarrier) → fault_number r.fault ≡ number → r.at ≡ at → r.carrying.0 ≡ set.0 → CarrierRefused t from terminals r
+      carrying_refused r p q s =
           let n : (number ≡ 0 → ⊥) = λ z. faulty r.fault (p ∙ z) in
           record {
+            list = w.list;
+            reached = λ h cs os tm all. w.read h cs os tm all ∙ ap (rest t (state_of h cs os w.list [] 0 0)) (sym q);
             read = λ h cs os tm all. w.read h cs os tm all ∙ j.read h cs os w.list tm all w.low ∙ judged_refused number at _ n ∙ ap₂ malformed (sym p) (sym q);
+            held = subst (λ (x : ℕ). Carries x (reverse w.list)) (sym s) w.held;
             inside = omega (arith, w.inside);
           }
 

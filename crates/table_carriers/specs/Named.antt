@@ -8,7 +8,7 @@ use Rattle.table_fields.specs.Reads.{state_of}
 use Rattle.table_fields.specs.Field.{rest, judged}
 use Rattle.table_fields.specs.Judge.{least_after}
 use Rattle.table_carriers.specs.declared.Carried.{Carried}
-use Rattle.table_fields.specs.declared.Refused.{Refused}
+use Rattle.table_carriers.specs.declared.RefusedCarrier.{RefusedCarrier}
 
 -- a tag 6 field judged, where the numbers from `least` on are above the one before: its number
 pub record CarrierJudged (t : List ℕ) (at terminals least number : ℕ) : Type 0 where
@@ -32,13 +32,18 @@ pub record CarriersDone (t : List ℕ) (from terminals : ℕ) (c : Carried) : Ty
   pub inside : c.at ≤ length t
   pub other : NoCarrier t c.at
 
--- one of them refused
-pub record CarrierRefused (t : List ℕ) (from terminals : ℕ) (r : Refused) : Type 0 where
+-- one of them refused, with the terminals that those before it name, the latest first
+pub record CarrierRefused (t : List ℕ) (from terminals : ℕ) (r : RefusedCarrier) : Type 0 where
+  pub list : List ℕ
+  pub reached :
+      (h : Header) (cs : List Counts) (os : List ℕ) → h.terminals ≡ terminals → h.nonterminals ≤ length cs
+      → rest t (state_of h cs os [] [] 0 0) from ≡ rest t (state_of h cs os list [] 0 0) r.at
   pub read :
       (h : Header) (cs : List Counts) (os : List ℕ) → h.terminals ≡ terminals → h.nonterminals ≤ length cs
       → rest t (state_of h cs os [] [] 0 0) from ≡ malformed (fault_number r.fault) r.at
+  pub held : Carries r.carrying.0 (reverse list)
   pub inside : r.at ≤ length t
 
-abbrev pub CarriersRead : List ℕ → ℕ → ℕ → Result Carried Refused → Type 0
+abbrev pub CarriersRead : List ℕ → ℕ → ℕ → Result Carried RefusedCarrier → Type 0
 CarriersRead t from terminals (Ok c) = CarriersDone t from terminals c
 CarriersRead t from terminals (Err r) = CarrierRefused t from terminals r

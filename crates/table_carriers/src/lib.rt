@@ -8,12 +8,19 @@ ghost use Rattle.refusals.specs.Numbers.{fault_or_zero};
 ghost use Rattle.table_carriers.specs.Named.{CarrierJudged, CarriersRead, NoCarrier};
 
 use refusals::TableFault;
-use table_fields::Refused;
 use token_set::TokenSet;
 
 // The end of the tag 6 fields, and the set of the terminals that they name.
 #[derive(Clone, Copy)]
 pub struct Carried {
+    pub at: usize,
+    pub carrying: TokenSet,
+}
+
+// A tag 6 field that is refused: its fault, where it stands, and the terminals that those before it name.
+#[derive(Clone, Copy, Debug, PartialEq, Eq)]
+pub struct RefusedCarrier {
+    pub fault: TableFault,
     pub at: usize,
     pub carrying: TokenSet,
 }
@@ -45,7 +52,7 @@ pub fn judge_carrier(
 }
 
 // All tag 6 fields from an offset on.
-pub fn read_carriers(table: &[u8], from: usize, terminals: usize) -> Result<Carried, Refused>
+pub fn read_carriers(table: &[u8], from: usize, terminals: usize) -> Result<Carried, RefusedCarrier>
     requires { (from ≤ length table.now) × (terminals ≤ terminals_limit) }
     ensures { CarriersRead table.now from terminals result }
 {
@@ -54,7 +61,11 @@ pub fn read_carriers(table: &[u8], from: usize, terminals: usize) -> Result<Carr
     let mut carrying = TokenSet::EMPTY;
     // Kept: a test of the field at hand, and no count, ends it.
     while is_carrier(table, at) {
-        judge_carrier(table, at, terminals, least).map_err(|fault| Refused { fault, at })?;
+        judge_carrier(table, at, terminals, least).map_err(|fault| RefusedCarrier {
+            fault,
+            at,
+            carrying,
+        })?;
         let terminal = table[at + 3];
         carrying = carrying.union(TokenSet::of_token(terminal));
         least = usize::from(terminal) + 1;

@@ -13,7 +13,7 @@ use Rattle.table_fields.specs.Field.{rest}
 use Rattle.table_fields.proofs.Rest.{rest_table, judged_fine, judged_refused}
 use Rattle.outline.specs.declared.Sizes.{Sizes}
 use Rattle.table_carriers.specs.declared.Carried.{Carried}
-use Rattle.table_fields.specs.declared.Refused.{Refused}
+use Rattle.table_carriers.specs.declared.RefusedCarrier.{RefusedCarrier}
 use Rattle.table_counts.specs.Refused.{number_in, offset_in}
 use Rattle.table_counts.specs.Counted.{header_in, counts_up_to, offsets_up_to, counted, HeaderJudged, CountsRead}
 use Rattle.table_counts.proofs.Faulty.{faulty}
@@ -52,7 +52,7 @@ module _ (t : List ℕ) (short : length t ≤ table_limit) (number : ℕ) (h : H
 -- ---- from the last tag 2 field on
 
 module _ (t : List ℕ) (sizes : Sizes) (inherited synthesized : List ℕ) (ready : HeaderRead t sizes inherited synthesized) where
-  pub carriers_refused : (e : Refused) → CarrierRefused t (7 + 5 * sizes.nonterminals) sizes.terminals e
+  pub carriers_refused : (e : RefusedCarrier) → CarrierRefused t (7 + 5 * sizes.nonterminals) sizes.terminals e
       → rest t (counted t inherited synthesized sizes.nonterminals) (7 + 5 * sizes.nonterminals) ≡ malformed (fault_number e.fault) e.at
   carriers_refused e r =
       r.read (header_in t) (counts_up_to inherited synthesized sizes.nonterminals) (offsets_up_to sizes.nonterminals) (sym ready.terminals)

@@ -11,7 +11,7 @@ loop-at-init c = carrying_start _ _ _ (omega arith)
 pub returns-in_err-map_err : goal.returns-in_err-map_err
 returns-in_err-map_err c =
     let p = err_from_is_err_and c.from_residual.result c.from_residual.ensures.1 in
-    rw p.1 (carrying_refused _ _ _ _ _ _ c.loop-at.invariant _ c.judge_carrier.ensures p.0 (grind (arith, common_steps)) (grind (arith, common_steps)))
+    rw p.1 (carrying_refused _ _ _ _ _ _ c.loop-at.invariant _ c.judge_carrier.ensures p.0 (grind (arith, common_steps)) (grind (arith, common_steps)) (grind (arith, common_steps)))
 
 pub loop-at-preserved : goal.loop-at-preserved
 loop-at-preserved c =
