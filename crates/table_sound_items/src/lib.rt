@@ -8,7 +8,7 @@ ghost use Rattle.meaning.specs.Table.{byte};
 ghost use Rattle.table_fields.specs.Field.{Whole};
 ghost use Rattle.table_rules.specs.Rule.{length_of};
 ghost use Rattle.table_items.specs.Progress.{Over};
-ghost use Rattle.table_sound_items.specs.Sound.{RuleSound, RuleStands, ConditionSound, ConditionStands, Sounding, WordsSettled, AllFull, stop_of};
+ghost use Rattle.table_sound_items.specs.Sound.{RuleSound, RuleStands, ConditionSound, ConditionStands, Sounding, WordsSettled, AllFull, done, stop_of};
 
 use limits::{CONDITIONS, POSITIONS, RULES};
 use table_items::Items;
@@ -155,6 +155,17 @@ pub fn all_settled(settled: &[u16; POSITIONS], width: usize) -> bool
         && (width == 0 || settled[1] == 65535 && (width == 1 || others_full(settled)))
 }
 
+// Where the rules and conditions that were read end, and how many they are.
+fn items_at(at: usize, rules: usize, conditions: usize) -> Items
+    ensures { result ≡ done at rules conditions }
+{
+    Items {
+        at,
+        rules,
+        conditions,
+    }
+}
+
 // Past the rules and conditions from where those before end, up to the next production or the end; or the first field with which something may
 // be wrong, with what was read before it.
 pub fn walk(
@@ -167,27 +178,30 @@ pub fn walk(
     ensures taken { Sounding table.now from.at from.rules from.conditions inputs.now settled.old settled.new (stop_of result).at (stop_of result).rules (stop_of result).conditions }
     ensures over { IfOk result (λ u. Over table.now u.at) }
 {
-    let mut done = from;
-    // Kept: each step is as long as the field that it passes, so no range has these offsets.
-    while done.at < table.len() {
-        match table_fields::wide(table[done.at]) {
+    let mut at = from.at;
+    let mut rules = from.rules;
+    let mut conditions = from.conditions;
+    // Kept: each step is as long as the field that it passes, so no range has these offsets. Three numbers go from step to step, and no struct, so
+    // that the processor can guess where the next field begins.
+    while at < table.len() {
+        match table_fields::wide(table[at]) {
             4 => {
-                let Some(end) = past_rule(table, done.at, done.rules, inputs, settled) else {
-                    return Err(done);
+                let Some(end) = past_rule(table, at, rules, inputs, settled) else {
+                    return Err(items_at(at, rules, conditions));
                 };
-                done.at = end;
-                done.rules += 1;
+                at = end;
+                rules += 1;
             }
             5 => {
-                let Some(end) = past_condition(table, done.at, done.conditions, inputs) else {
-                    return Err(done);
+                let Some(end) = past_condition(table, at, conditions, inputs) else {
+                    return Err(items_at(at, rules, conditions));
                 };
-                done.at = end;
-                done.conditions += 1;
+                at = end;
+                conditions += 1;
             }
-            3 => return Ok(done),
-            _ => return Err(done),
+            3 => return Ok(items_at(at, rules, conditions)),
+            _ => return Err(items_at(at, rules, conditions)),
         }
     }
-    Ok(done)
+    Ok(items_at(at, rules, conditions))
 }
