@@ -14,22 +14,24 @@ use limits::{CONDITIONS, POSITIONS, RULES};
 use table_items::Items;
 
 // The length of a rule's body by its function, if that is known.
-// Kept: the four lengths are told apart by branches, so that the processor can guess where the next field begins.
+// Kept: the four lengths are told apart by branches that return early, so that the processor can guess where the next field begins.
 #[tactic(auto, unfolding(table_rules::specs::Rule::length_of, table_fields::specs::Demand::if_equal, table_fields::specs::Demand::if_below))]
 fn size_of_rule(f: usize) -> Option<usize>
     ensures { IfSome result (λ size. (f ≤ 8) × (size ≡ length_of f) × (5 ≤ size) × (size ≤ 9)) }
 {
     if f == 7 {
-        Some(9)
-    } else if f == 1 {
-        Some(5)
-    } else if f < 7 {
-        Some(7)
-    } else if f == 8 {
-        Some(9)
-    } else {
-        None
+        return Some(9);
     }
+    if f == 1 {
+        return Some(5);
+    }
+    if f < 7 {
+        return Some(7);
+    }
+    if f == 8 {
+        return Some(9);
+    }
+    None
 }
 
 // True only where a whole field with a body of this size stands at an offset.
