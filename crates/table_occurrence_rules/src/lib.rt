@@ -28,16 +28,19 @@ pub fn is_input(inputs: &[u16; POSITIONS], limit: usize, body: &[u8], at: usize)
 }
 
 // True only where all operands of a rule by function f are inputs at positions below a limit.
+// Kept: one test of the first operand for all functions, and tests one after the other, so that the processor can guess where the next field begins.
 #[tactic(auto, unfolding(table_rules::specs::Rule::operand_count, table_fields::specs::Demand::if_equal, table_fields::specs::Demand::if_below))]
 fn are_inputs(inputs: &[u16; POSITIONS], limit: usize, body: &[u8], f: usize) -> bool
     requires { (1 ≤ limit) × (limit ≤ positions_limit) × (f ≤ 8) × (3 + 2 * operand_count f ≤ length body.now) }
     ensures { (width : ℕ) (inh syn : List ℕ) → Inputs width inh syn inputs.now → result ≡ true → OperandsFit limit width inh syn body.now (operand_count f) }
 {
-    match f {
-        0 => true,
-        2..=6 => is_input(inputs, limit, body, 3) && is_input(inputs, limit, body, 5),
-        _ => is_input(inputs, limit, body, 3),
+    if f == 0 {
+        return true;
     }
+    if !is_input(inputs, limit, body, 3) {
+        return false;
+    }
+    f == 1 || 7 <= f || is_input(inputs, limit, body, 5)
 }
 
 // Operands stand below the position of their target, unless that is the left side.

@@ -3,14 +3,14 @@ use Rattle.table_rule_fields.proofs.Sound.{fit_none, fit_one, fit_two}
 use Rattle.table_occurrence_rules.proofs.Settling.{count_none, count_one, count_two}
 use Rattle.table_occurrence_rules.proofs.are_inputs.Goals as goal
 
-pub returns-in-0 : goal.returns-in-0
-returns-in-0 c = λ width inh syn i e. fit_none _ _ _ _ _ _ (omega arith) (count_none _ (omega arith))
+pub returns-then-f-eq0 : goal.returns-then-f-eq0
+returns-then-f-eq0 c = λ width inh syn i e. fit_none _ _ _ _ _ _ (omega arith) (count_none _ c.if-f-eq0.true)
 
-pub returns-then-is_input : goal.returns-then-is_input
-returns-then-is_input c = λ width inh syn i e.
-    let q = count_two c.args.f (λ z. omega arith) (λ z. omega arith) (omega arith) in
-    fit_two _ _ _ _ _ _ (omega arith) (c.is_input.ensures width inh syn i c.if-is_input.true) (omega arith) (c.is_input-then-is_input.ensures width inh syn i e)
+pub returns-then-f-ge7 : goal.returns-then-f-ge7
+returns-then-f-ge7 c = λ width inh syn i e.
+    fit_one _ _ _ _ _ _ (omega arith) (c.is_input.ensures width inh syn i c.if-not-is_input.false) (count_one c.args.f c.if-f-eq0.false (λ y z. omega arith))
 
-pub returns-in_default : goal.returns-in_default
-returns-in_default c = λ width inh syn i e.
-    fit_one _ _ _ _ _ _ (omega arith) (c.is_input-in_default.ensures width inh syn i e) (count_one c.args.f (λ z. omega arith) (λ y z. omega arith))
+pub returns-else-f-ge7 : goal.returns-else-f-ge7
+returns-else-f-ge7 c = λ width inh syn i e.
+    let q = count_two c.args.f c.if-f-eq0.false (λ z. omega arith) (omega arith) in
+    fit_two _ _ _ _ _ _ (omega arith) (c.is_input.ensures width inh syn i c.if-not-is_input.false) (omega arith) (c.is_input-else-f-ge7.ensures width inh syn i e)
