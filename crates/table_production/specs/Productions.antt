@@ -102,6 +102,10 @@ BodyRead t at carrying inherited synthesized r₀ c₀ (Err x) =
     (h : Header) (cs : List Counts) (os ws : List ℕ) (es : List Entry) → h.nonterminals ≤ length cs → CountsAgree t at carrying inherited synthesized cs ws
     → rest t (state_of h cs os ws (entry_of at (left_in t at) (right_in t at) [] [] ∷ es) r₀ c₀) (at + 5 + width_in t at) ≡ malformed (fault_number x.fault) x.at
 
+-- a fault at an offset, as a table is refused for it
+abbrev pub refusal_of : TableFault → ℕ → TableRefusal
+refusal_of f at = record { fault = f; offset = at }
+
 -- production p with all its fields read, or a refusal; rows and offsets before and after
 pub record ProductionRead (t : List ℕ) (at p terminals nonterminals carrying : ℕ) (inherited synthesized rows₀ offsets₀ : List ℕ) (r₀ c₀ : ℕ) (rows offsets : List ℕ) (u : Result Items TableRefusal) : Type 0 where
   pub read :

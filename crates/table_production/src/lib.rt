@@ -9,7 +9,7 @@ ghost use Rattle.meaning.specs.Table.{byte};
 ghost use Rattle.table_counts.specs.Counted.{SmallCounts};
 ghost use Rattle.table_items.specs.Progress.{Next, place_of};
 ghost use Rattle.table_sound_items.specs.Sound.{BodyTaken};
-ghost use Rattle.table_production.specs.Productions.{width_in, HeadJudged, FieldRead, SmallBody, WordsPlaced, BodyRead, ProductionRead};
+ghost use Rattle.table_production.specs.Productions.{width_in, HeadJudged, FieldRead, SmallBody, WordsPlaced, BodyRead, ProductionRead, refusal_of};
 ghost use Rattle.table_production.specs.Rights.{RightsTo};
 
 use limits::{NONTERMINALS, POSITIONS, PRODUCTIONS, ROWS};
@@ -146,6 +146,15 @@ fn read_field(
     .ok_or(TableFault::Unknown)
 }
 
+// The refusal of a table for the fault at an offset.
+fn refusal_at(fault: TableFault, at: usize) -> TableRefusal
+    requires { at ≤ table_limit }
+    ensures { result ≡ refusal_of fault at }
+{
+    let offset = at as u32;
+    TableRefusal { fault, offset }
+}
+
 // Production p, with its row, its offset, the word of its right side, its rules and conditions, from where those of the productions before it
 // end.
 pub fn read_production(
@@ -170,41 +179,14 @@ pub fn read_production(
 {
     let at = before.at;
     let mut inputs = [0u16; POSITIONS];
-    let mut settled = [65535u16; POSITIONS];
-    match read_field(
-        table,
-        at,
-        p,
-        sizes,
-        inh,
-        syn,
-        rows,
-        &mut inputs,
-        &mut settled,
-    ) {
+    let mut full = [65535u16; POSITIONS];
+    match read_field(table, at, p, sizes, inh, syn, rows, &mut inputs, &mut full) {
         Ok(word) => words[p] = word.0,
-        Err(fault) => {
-            let offset = at as u32;
-            return Err(TableRefusal { fault, offset });
-        }
+        Err(fault) => return Err(refusal_at(fault, at)),
     }
     offsets[p] = at as u32;
-    match read_body(
-        table,
-        before,
-        sizes.carrying,
-        inh,
-        syn,
-        &inputs,
-        &mut settled,
-    ) {
+    match read_body(table, before, sizes.carrying, inh, syn, &inputs, &mut full) {
         Ok(items) => Ok(items),
-        Err(refused) => {
-            let offset = refused.at as u32;
-            Err(TableRefusal {
-                fault: refused.fault,
-                offset,
-            })
-        }
+        Err(refused) => Err(refusal_at(refused.fault, refused.at)),
     }
 }

@@ -15,6 +15,17 @@ use table_items::Items;
 use table_production::read_production;
 use token_set::TokenSet;
 
+// Where the productions begin: no rule and no condition is read.
+fn none_read(from: usize) -> Items
+    ensures { (result.at ≡ from) × (result.rules ≡ 0) × (result.conditions ≡ 0) }
+{
+    Items {
+        at: from,
+        rules: 0,
+        conditions: 0,
+    }
+}
+
 // All productions, from an offset on.
 fn read_productions(
     table: &[u8],
@@ -29,11 +40,7 @@ fn read_productions(
     requires { Begun table.now from sizes inherited.now synthesized.now }
     ensures { AnswersFrom table.now from sizes result inherited.now synthesized.now rows.new offsets.new × Worded result rows.new words.new }
 {
-    let mut done = Items {
-        at: from,
-        rules: 0,
-        conditions: 0,
-    };
+    let mut done = none_read(from);
     let mut p = 0;
     // Kept: each step is as long as the fields of the production that it reads, so no range has these offsets.
     while done.at < table.len() {
@@ -51,10 +58,9 @@ fn read_productions(
         p += 1;
     }
     if p == 0 {
-        return Err(TableRefusal {
-            fault: TableFault::OutOfOrder,
-            offset: done.at as u32,
-        });
+        let fault = TableFault::OutOfOrder;
+        let offset = done.at as u32;
+        return Err(TableRefusal { fault, offset });
     }
     Ok(Sizes {
         productions: p,

@@ -6,7 +6,9 @@ use Rattle.table_production.proofs.Wording.{rights_read}
 use Rattle.table_production.proofs.read_production.Goals as goal
 
 pub returns-in-Err-clause-read : goal.returns-in-Err-clause-read
-returns-in-Err-clause-read c = let field = c.in-Err.ensures in production_refused _ _ _ _ _ _ _ _ _ _ _ _ _ field.judged c.requires.8 _ _ refl (omega arith) field.kept
+returns-in-Err-clause-read c =
+    let field = c.in-Err.ensures in
+    rw c.refusal_at.ensures (production_refused _ _ _ _ _ _ _ _ _ _ _ _ _ field.judged c.requires.8 _ _ refl (omega arith) field.kept)
 
 pub read_body-requires : goal.read_body-requires
 read_body-requires c =
@@ -29,4 +31,4 @@ pub returns-in-Err-read_body-clause-read : goal.returns-in-Err-read_body-clause-
 returns-in-Err-read_body-clause-read c =
     let field = c.in-Ok.ensures in
     let body = c.in-Err-read_body.ensures in
-    production_stopped _ _ _ _ _ _ _ _ _ _ _ _ _ field.judged c.requires.8 refl _ _ refl field.copied _ body.read body.inside
+    rw c.refusal_at-in-Err-read_body.ensures (production_stopped _ _ _ _ _ _ _ _ _ _ _ _ _ field.judged c.requires.8 refl _ _ refl field.copied _ body.read body.inside)
