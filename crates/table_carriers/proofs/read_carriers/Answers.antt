@@ -11,10 +11,10 @@ loop-at-init c = carrying_start _ _ _ (omega arith)
 pub returns-in_err-map_err : goal.returns-in_err-map_err
 returns-in_err-map_err c =
     let p = err_from_is_err_and c.from_residual.result c.from_residual.ensures.1 in
-    rw p.1 (carrying_refused _ _ _ _ _ _ c.loop-at.invariant _ c.judge_carrier.ensures p.0 (grind (arith, common_steps)) (grind (arith, common_steps)) (grind (arith, common_steps)))
+    rw p.1 (carrying_refused _ _ _ _ _ _ c.loop-at.invariant _ c.judge_carrier.ensures p.0 (grind (arith, common_steps)) (grind (arith, common_steps)) (grind arith))
 
 pub loop-at-preserved : goal.loop-at-preserved
 loop-at-preserved c =
     let fine : fault_or_zero c.judge_carrier.result ≡ 0 = grind (arith, common_steps) in
     rw c.union-carrying.ensures.word
-    (carrying_more _ _ _ _ _ _ c.loop-at.invariant _ c.judge_carrier.ensures fine c.requires.1 _ _ c.of_token.ensures (grind (arith, common_steps)))
+    (carrying_more _ _ _ _ _ _ c.loop-at.invariant _ c.judge_carrier.ensures fine c.requires.1 _ _ c.of_token.ensures (omega arith))
