@@ -6,6 +6,7 @@ use Rattle.table_reader.specs.Fields.{nth_production}
 use Rattle.refusals.specs.Numbers.{fault_number}
 use Rattle.refusals.specs.declared.TableRefusal.{TableRefusal}
 use Rattle.table_reader.specs.declared.Stretch as Reader
+use Rattle.checker_span.specs.declared.RefusedAs.{RefusedAs}
 
 -- from one offset to another, or a refusal by its number
 pub data Span : Type 0 where
@@ -16,6 +17,15 @@ pub data Span : Type 0 where
 abbrev pub span_is : Result Reader.Stretch TableRefusal → Span
 span_is (Ok s) = Within s.from s.to
 span_is (Err r) = Nowhere (fault_number r.fault) r.offset
+
+-- the number and the offset of a refusal of ours
+abbrev pub refused_as : TableRefusal → RefusedAs
+refused_as r = record { number = fault_number r.fault; offset = r.offset }
+
+-- the span that an answer is, whatever says by which number and at which offset a table is refused. By `refused_as` it is `span_is`
+abbrev pub span_by : {R : Type 0} → (R → RefusedAs) → Result Reader.Stretch R → Span
+span_by f (Ok s) = Within s.from s.to
+span_by f (Err r) = Nowhere (f r).number (f r).offset
 
 -- the part handed back and what the two lent numbers then hold
 abbrev pub stretch_is : List ℕ → ℕ → ℕ → Stretch

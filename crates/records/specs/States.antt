@@ -1,5 +1,5 @@
 -- The states that the code makes, and 33 and 40 by a state alone.
-use Rattle.std.specs.Prelude.{ℕ, ◌≡◌, Bool, false, ◌&&◌, eqb}
+use Rattle.std.specs.Prelude.{ℕ, ◌≡◌, Bool, true, false, ◌&&◌, eqb}
 use Rattle.std.proofs.Common.{sym, ap, ◌∙◌, eq-eqb, ne_eqb}
 use Rattle.meaning_inner.specs.Inner.{begins_at}
 use Rattle.meaning.specs.Calls as Calls
@@ -38,6 +38,10 @@ gate_of k r = gate k r.status r.kind
 abbrev pub gate_number : Gate → ℕ
 gate_number admitted = 0
 gate_number (turned_back n) = n
+
+abbrev pub is_admitted : Gate → Bool
+is_admitted admitted = true
+is_admitted (turned_back n) = false
 
 -- ---- what a call hands back that makes no move
 

@@ -1,15 +1,16 @@
 // A run's state and a call's answer, as one call hands them to the next. Above this crate a state is made by these functions and asked by them, so that a new status or kind is a matter of this crate.
 #![tactic(auto)]
 
-ghost use Rattle.std.specs.Prelude.{◌≡◌};
+ghost use Rattle.std.specs.Prelude.{◌≡◌, ℕ, is_ok};
 ghost use Rattle.meaning.specs.Calls as Calls;
 ghost use Rattle.meaning_inner.specs.Inner.{is_closed, is_running, is_waiting, is_outer, begins_at};
 ghost use Rattle.records.specs.Records.{status_is, kind_is, state_is};
 ghost use Rattle.records.specs.declared.Status.TheVariants.{Running, Waiting, Closed};
 ghost use Rattle.records.specs.declared.Kind.TheVariants.{Inner, Outer};
 ghost use Rattle.records.specs.declared.Answer.TheVariants.{Refused};
-ghost use Rattle.refusals.specs.Numbers.{refusal_number, refusal_or_zero};
-ghost use Rattle.records.specs.States.{running_at, with_status, with_kind, closed_at_zero, gate_of, gate_number, brought_back, not_opened};
+ghost use Rattle.refusals.specs.Numbers.{refusal_number};
+ghost use Rattle.records.specs.Numbered.{number_or_zero};
+ghost use Rattle.records.specs.States.{running_at, with_status, with_kind, closed_at_zero, gate_of, gate_number, is_admitted, brought_back, not_opened};
 
 use refusals::Refusal;
 
@@ -57,6 +58,32 @@ pub enum Answer {
 pub struct Handed {
     pub state: State,
     pub answer: Answer,
+}
+
+// What stands for a refusal by its number: a refusal of ours, or any number that a caller has.
+pub trait Numbered: Copy {
+    ghost number_of: { Self → ℕ };
+
+    // What stands for a refusal of ours.
+    fn of(refusal: Refusal) -> Self
+        ensures { number_of result ≡ refusal_number refusal };
+}
+
+impl Numbered for Refusal {
+    ghost number_of = { refusal_number };
+
+    fn of(refusal: Refusal) -> Refusal {
+        refusal
+    }
+}
+
+// Any number, also one that is no refusal's.
+impl Numbered for u32 {
+    ghost number_of = { λ n. n };
+
+    fn of(refusal: Refusal) -> u32 {
+        refusal.number()
+    }
 }
 
 impl Answer {
@@ -194,14 +221,14 @@ impl State {
         matches!(self.kind, Kind::Inner { registers, places } if height == registers && top == places)
     }
 
-    // What turns a call back before the stacks are looked at: 33 or 40, and `other` for an inner record.
-    pub fn gate(self, other: Refusal) -> Result<(), Refusal>
-        ensures { refusal_or_zero result ≡ gate_number (gate_of (refusal_number other) (state_is self)) }
+    // What turns a call back before the stacks are looked at: 33 or 40, and `other` for an inner record, whatever its number.
+    pub fn gate<R: Numbered>(self, other: R) -> Result<(), R>
+        ensures { (number_or_zero R.number_of result ≡ gate_number (gate_of (R.number_of other) (state_is self))) × (is_ok result ≡ is_admitted (gate_of (R.number_of other) (state_is self))) }
     {
         match (self.status, self.kind) {
-            (Status::Closed, _) => Err(Refusal::Closed),
+            (Status::Closed, _) => Err(R::of(Refusal::Closed)),
             (_, Kind::Inner { .. }) => Err(other),
-            (Status::Waiting, Kind::Outer) => Err(Refusal::Waiting),
+            (Status::Waiting, Kind::Outer) => Err(R::of(Refusal::Waiting)),
             (Status::Running, Kind::Outer) => Ok(()),
         }
     }

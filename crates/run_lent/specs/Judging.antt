@@ -1,6 +1,6 @@
 -- 33, 40 and 34, and the calls once they are judged.
 use Rattle.std.specs.Prelude.{ℕ, ◌≤◌, min, ◌≡◌, refl, Bool, true, false, List, length, take, T, ℤ}
-use Rattle.std.proofs.Common.{arith, sym, ap, ap₂, ◌∙◌}
+use Rattle.std.proofs.Common.{arith, sym, ap, ap₂, ◌∙◌, subst}
 use Rattle.meaning.specs.Limits.{registers_limit, places_limit}
 use Rattle.meaning.specs.Grammar.{Grammar}
 use Rattle.meaning.specs.Fit.{Fit}
@@ -11,7 +11,7 @@ use Rattle.theory_answers.specs.FitTest.{fit_exactly}
 use Rattle.refusals.specs.declared.Refusal.{Refusal}
 use Rattle.refusals.specs.declared.Refusal.TheVariants.{UnknownToken, UnexpectedToken, ConditionFalse, ValueOutside, OverTooEarly, AreaShort, NoRegister, NoPlace, Closed, Unfit, LimitReached, BufferShort, Unsuited, UnequalLists, ScratchShort, Waiting, SheetShort, WindowUnfit, SheetWrong}
 use Rattle.refusals.specs.Numbers.{refusal_number}
-use Rattle.records.specs.States.{gate_of, gate_number}
+use Rattle.records.specs.States.{gate_of, gate_number, is_admitted}
 use Rattle.run_fit.specs.Cut.{fits_cut}
 
 abbrev pub number_by : Gate → Bool → ℕ
@@ -34,6 +34,9 @@ admits k l waiting outer e = absurd (omega arith)
 admits k l waiting (inner a b) e = absurd (omega arith)
 admits k l closed d e = absurd (omega arith)
 
+differ : false ≡ true → ⊥
+differ e = absurd (subst T (sym e) tt)
+
 module _ (k : ℕ) (g : Grammar) (r : Record) (m : Stacks) where
   pub number_gate : (n : ℕ) → n ≡ gate_number (gate_of k r) → (n ≡ 0 → ⊥) → n ≡ number_for k g r m
   number_gate n e z = go (gate_of k r) e
@@ -41,6 +44,21 @@ module _ (k : ℕ) (g : Grammar) (r : Record) (m : Stacks) where
       go : (x : Gate) → n ≡ gate_number x → n ≡ number_by x (stacks_fit g r m)
       go admitted d = absurd (z d)
       go (turned_back j) d = d
+
+  -- the same by what is admitted, whatever k is
+  pub number_turned : (n : ℕ) → n ≡ gate_number (gate_of k r) → false ≡ is_admitted (gate_of k r) → n ≡ number_for k g r m
+  number_turned n = go (gate_of k r)
+    where
+      go : (x : Gate) → n ≡ gate_number x → false ≡ is_admitted x → n ≡ number_by x (stacks_fit g r m)
+      go admitted d e = absurd (differ e)
+      go (turned_back j) d e = d
+
+  pub number_admitted : (f : Bool) → true ≡ is_admitted (gate_of k r) → stacks_fit g r m ≡ f → number_by admitted f ≡ number_for k g r m
+  number_admitted f e q = go (gate_of k r) e ∙ ap (number_by (gate_of k r)) (sym q)
+    where
+      go : (x : Gate) → true ≡ is_admitted x → number_by admitted f ≡ number_by x f
+      go admitted d = refl
+      go (turned_back j) d = absurd (differ (sym d))
 
   pub number_judged : 1 ≤ k → (f : Bool) → gate_number (gate_of k r) ≡ 0 → stacks_fit g r m ≡ f → number_by admitted f ≡ number_for k g r m
   number_judged l f e q = sym (ap₂ number_by (admits k l r.status r.kind e) q)

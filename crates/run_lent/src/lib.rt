@@ -8,11 +8,11 @@ ghost use Rattle.meaning.specs.Calls.{feed_of, finish_of};
 ghost use Rattle.meaning.specs.PublicCalls.{stacks_of, call_of};
 ghost use Rattle.run_fit.specs.HasProgram.{HasProgram, Readable};
 ghost use Rattle.records.specs.Records.{state_is, handed_is};
-ghost use Rattle.refusals.specs.Numbers.{refusal_number, refusal_or_zero};
+ghost use Rattle.records.specs.Numbered.{number_or_zero};
 ghost use Rattle.run_lent.specs.Judging.{number_for};
 ghost use Rattle.run_lent.specs.Performing.{Judged, call_is};
 
-use records::{Answer, Handed, State, as_brought};
+use records::{Answer, Handed, Numbered, State, as_brought};
 use refusals::Refusal;
 
 // The calls on a run that is opened.
@@ -24,16 +24,16 @@ pub enum Call {
 
 // ---- on exactly the lent cells
 
-// What turns the call back, if anything: 33, 40 or 34, `other` in the place of 34 for an inner record.
-fn turned_back(
-    other: Refusal,
+// What turns the call back, if anything: 33, 40 or 34, `other` in the place of 34 for an inner record, whatever its number.
+fn turned_back<R: Numbered>(
+    other: R,
     registers: &[i64],
     places: &[u32],
     program: &[u32],
     brought: State,
-) -> Result<(), Refusal>
+) -> Result<(), R>
     requires { (length registers.now ≤ registers_limit) × (length places.now ≤ places_limit) × Readable program.now }
-    ensures { (g : Grammar) → HasProgram g program.now → refusal_or_zero result ≡ number_for (refusal_number other) g (state_is brought) (stacks_of registers.now places.now) }
+    ensures { (g : Grammar) → HasProgram g program.now → number_or_zero R.number_of result ≡ number_for (R.number_of other) g (state_is brought) (stacks_of registers.now places.now) }
 {
     brought.gate(other)?;
     if run_fit::fits(
@@ -47,7 +47,7 @@ fn turned_back(
     ) {
         Ok(())
     } else {
-        Err(Refusal::Unfit)
+        Err(R::of(Refusal::Unfit))
     }
 }
 
@@ -104,16 +104,16 @@ fn call_lent(
 
 // ---- on cells of any length
 
-// The judgement of a record alone.
-pub fn judge_cells(
-    other: Refusal,
+// The judgement of a record alone. A number 0 in the place of `other` is an inner record's as any other is.
+pub fn judge_cells<R: Numbered>(
+    other: R,
     registers: &[i64],
     places: &[u32],
     program: &[u32],
     brought: State,
-) -> Result<(), Refusal>
+) -> Result<(), R>
     requires { Readable program.now }
-    ensures { (g : Grammar) → HasProgram g program.now → refusal_or_zero result ≡ number_for (refusal_number other) g (state_is brought) (stacks_of registers.now places.now) }
+    ensures { (g : Grammar) → HasProgram g program.now → number_or_zero R.number_of result ≡ number_for (R.number_of other) g (state_is brought) (stacks_of registers.now places.now) }
 {
     let n = run_cells::smaller(registers.len(), limits::REGISTERS);
     let k = run_cells::smaller(places.len(), limits::PLACES);

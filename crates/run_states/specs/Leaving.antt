@@ -1,5 +1,5 @@
 -- What a call leaves, by the run that memory holds at its end.
-use Rattle.std.specs.Prelude.{ℕ, ◌-◌, ◌≤◌, ◌<◌, ◌≡◌, refl, Bool, true, false, List, [], map, length, get_or, T, leb, ℤ, Ok, Err}
+use Rattle.std.specs.Prelude.{ℕ, ◌-◌, ◌≤◌, ◌<◌, ◌≡◌, refl, Bool, true, false, List, [], map, length, get_or, T, leb, ℤ, Result, Ok, Err}
 use Rattle.std.proofs.Common.{arith, sym, ap, ap₂, ◌∙◌, subst, leb-true, leb-false}
 use Rattle.std.proofs.lemmas.List.{length-map}
 use Rattle.std.proofs.Math.ListN.{get_or-eq_default}
@@ -30,6 +30,7 @@ use Rattle.records.specs.declared.Answer.TheVariants.{More, Value, Refused}
 use Rattle.records.specs.declared.Handed.{Handed}
 use Rattle.records.specs.Records.{status_is, state_is, handed_is}
 use Rattle.records.specs.States.{running_at, with_status}
+use Rattle.run_states.specs.declared.FailedAs.{FailedAs}
 use Rattle.run_states.specs.Starting.{laid_all}
 
 -- an outer run that goes on
@@ -39,6 +40,23 @@ open_from run = running_at run.tokens run.moves run.registers run.places
 -- one that is over
 abbrev pub closed_from : Run → State
 closed_from run = with_status Closed (open_from run)
+
+-- the run and the number of what the machine fails with
+abbrev pub failed_as : Failed → FailedAs
+failed_as f = record { run = f.run; number = refusal_number f.refusal }
+
+-- what is handed back where what comes or a move is refused, by whatever number
+abbrev pub refused_as : FailedAs → Handed
+refused_as f = record { state = closed_from f.run; answer = Refused f.number f.run.tokens }
+
+-- what a feed and a finish hand back, whatever says which run is over and by which number. By `failed_as` these are `fed_from` and `finished_from`
+abbrev pub fed_by : {F : Type 0} → (F → FailedAs) → Result Run F → Handed
+fed_by f (Ok run) = record { state = open_from run; answer = More run.moves }
+fed_by f (Err x) = refused_as (f x)
+
+abbrev pub finished_by : {F : Type 0} → (F → FailedAs) → ℕ → List ℤ → Result Run F → Handed
+finished_by f k m (Ok run) = record { state = closed_from run; answer = Value (read_register (stack run.registers m) k) run.moves }
+finished_by f k m (Err x) = refused_as (f x)
 
 -- what is handed back where what comes or a move is refused
 abbrev pub refused_from : Failed → Handed
@@ -67,7 +85,7 @@ pub finished_failed : (n : ℕ) (m : List ℤ) (e : Ended) (f : Failed) (r : Sta
 finished_failed n m e f r q s = ap (λ z. record { state = z; answer = Refused (refusal_number f.refusal) f.run.tokens }) s ∙ ap (finished_from n m) (sym q)
 
 -- what the code relies on where a finish ends
-pub record Ending (ws : List ℕ) (vs : List ℤ) (e : Ended) : Type 0 where
+pub record Ending {F : Type 0} (ws : List ℕ) (vs : List ℤ) (e : Result Run F) : Type 0 where
   pub some : (run : Run) → e ≡ Ok run → (run.registers ≤ length vs) × (1 ≤ get_or ws 5 0) × (get_or ws 5 0 ≤ run.registers)
   pub long : 5 < length ws
 

@@ -12,8 +12,9 @@ ghost use Rattle.theory_program.specs.Resuming.{place_address};
 ghost use Rattle.run_moves.specs.Held.{Held};
 ghost use Rattle.meaning.specs.PublicCalls.{stacks_of};
 ghost use Rattle.records.specs.Records.{state_is};
+ghost use Rattle.run_states.specs.declared.FailedAs.{FailedAs};
 ghost use Rattle.run_states.specs.Starting.{Stood, PlaceStands, Fitting};
-ghost use Rattle.run_states.specs.Leaving.{open_from, closed_from, refused_from, fed_from, finished_from, Ending};
+ghost use Rattle.run_states.specs.Leaving.{open_from, closed_from, failed_as, refused_as, fed_by, finished_by, Ending};
 
 use records::{Answer, Handed, State};
 use run_machine::Failed;
@@ -72,35 +73,69 @@ fn closed_at(run: Run) -> State
     open_at(run).closed()
 }
 
+// A run that is over, and any number that a caller has for the refusal.
+#[derive(Clone, Copy, Debug, PartialEq, Eq)]
+pub struct FailedAs {
+    pub run: Run,
+    pub number: u32,
+}
+
+// What says which run is over and by which number: the machine's own, or a caller's.
+pub trait Failing: Copy {
+    ghost failed_of: { Self → FailedAs };
+
+    fn failed(self) -> FailedAs
+        ensures { result ≡ failed_of self };
+}
+
+impl Failing for Failed {
+    ghost failed_of = { failed_as };
+
+    fn failed(self) -> FailedAs {
+        FailedAs {
+            run: self.run,
+            number: self.refusal.number(),
+        }
+    }
+}
+
+impl Failing for FailedAs {
+    ghost failed_of = { λ f. f };
+
+    fn failed(self) -> FailedAs {
+        self
+    }
+}
+
 // A run that is over by a refusal.
-fn refused(failed: Failed) -> Handed
-    ensures { result ≡ refused_from failed }
+fn refused(failed: FailedAs) -> Handed
+    ensures { result ≡ refused_as failed }
 {
     Handed {
         state: closed_at(failed.run),
         answer: Answer::Refused {
-            number: failed.refusal.number(),
+            number: failed.number,
             tokens: failed.run.tokens,
         },
     }
 }
 
-pub fn fed(ended: Result<Run, Failed>) -> Handed
-    ensures { result ≡ fed_from ended }
+pub fn fed<F: Failing>(ended: Result<Run, F>) -> Handed
+    ensures { result ≡ fed_by F.failed_of ended }
 {
     match ended {
         Ok(run) => Handed {
             state: open_at(run),
             answer: Answer::More(run.moves),
         },
-        Err(failed) => refused(failed),
+        Err(failed) => refused(failed.failed()),
     }
 }
 
 // The value is the result register of the start symbol.
-pub fn finished(registers: &[i64], program: &[u32], ended: Result<Run, Failed>) -> Handed
+pub fn finished<F: Failing>(registers: &[i64], program: &[u32], ended: Result<Run, F>) -> Handed
     requires { Ending program.now registers.now ended }
-    ensures { result ≡ finished_from (get_or program.now 5 0) registers.now ended }
+    ensures { result ≡ finished_by F.failed_of (get_or program.now 5 0) registers.now ended }
 {
     match ended {
         Ok(run) => Handed {
@@ -110,6 +145,6 @@ pub fn finished(registers: &[i64], program: &[u32], ended: Result<Run, Failed>) 
                 run.moves,
             ),
         },
-        Err(failed) => refused(failed),
+        Err(failed) => refused(failed.failed()),
     }
 }
