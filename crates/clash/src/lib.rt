@@ -111,7 +111,8 @@ fn lowest_by_entry(
         ranks: [Entry::Free; PRODUCTIONS],
     };
     let mut seen = [0u64; NONTERMINALS];
-    for later in 0..count {
+    let mut lowest = None;
+    'pairs: for later in 0..count {
         let left = left_of(rows, later);
         let at = left as usize;
         let on = met.has(left);
@@ -121,13 +122,14 @@ fn lowest_by_entry(
         // Kept: from rival to rival; an iterator over them would hold the outline and what is kept of both productions, and call the same function.
         while let Some(earlier) = rival {
             if enters_together(table, offsets, &kept.ranks, later, earlier) {
-                return Some(later);
+                lowest = Some(later);
+                break 'pairs;
             }
             rival = next_rival(rows, sets, &kept, later, earlier + 1);
         }
         seen[at] = had.union(TokenSet(sets[later])).0;
     }
-    None
+    lowest
 }
 
 // The lowest production that clashes with an earlier one.

@@ -24,7 +24,11 @@ impl KeptEntries {
         for a in 0..ATTRIBUTES {
             let i = ATTRIBUTES * p + a;
             let j = ATTRIBUTES * q + a;
-            if self.highs[i].min(self.highs[j]) < self.lows[i].max(self.lows[j]) {
+            if self.highs[j] < self.lows[i]
+                || self.highs[i] < self.lows[j]
+                || self.highs[i] < self.lows[i]
+                || self.highs[j] < self.lows[j]
+            {
                 return false;
             }
         }

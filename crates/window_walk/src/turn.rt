@@ -1,7 +1,10 @@
 // One more value of the walk along a window's ring.
-ghost use Rattle.std.specs.Prelude.{◌<◌, ◌≡◌};
+ghost use Rattle.std.specs.Prelude.{◌*◌, ◌<◌, ◌≤◌, ◌≡◌, T, nat_abs};
+ghost use Rattle.meaning.specs.Value as Value;
+ghost use Rattle.meaning_window.specs.Window.{window_limit};
+ghost use Rattle.value.specs.Overflow.{reach};
 ghost use Rattle.theory_window.specs.Leaders as Leaders;
-ghost use Rattle.window_found.specs.Turns.{ReadyForTurn, matched_at, stays_at, turned, cells_after};
+ghost use Rattle.window_found.specs.Turns.{ReadyForTurn, matched_at, stays_at, passing, turned, cells_after};
 
 use limits::PAST_WINDOW;
 use value::in_range;
@@ -29,6 +32,19 @@ fn is_staying(slot: usize, next: usize, leader: i64, value: i64) -> bool
     slot != next && value < leader
 }
 
+// The walk after a slot with a value that does not lead.
+fn passed_by(w: Walk, slot: usize, value: i64) -> Walk
+    requires { (nat_abs w.sum ≤ reach * window_limit) × T (Value.in_range value) }
+    ensures { result ≡ passing w slot value }
+{
+    Walk {
+        slot,
+        last: value,
+        sum: w.sum + value,
+        ..w
+    }
+}
+
 // One more value of the walk, the one before in the ring. A leader that stays is put before those that were found.
 pub fn one_turn(
     slots: &[i64],
@@ -46,12 +62,7 @@ pub fn one_turn(
     if !in_range(v) {
         return None;
     }
-    let passed = Walk {
-        slot,
-        last: v,
-        sum: w.sum + v,
-        ..w
-    };
+    let passed = passed_by(w, slot, v);
     if v <= w.top {
         return Some(passed);
     }

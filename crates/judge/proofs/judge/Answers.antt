@@ -64,7 +64,7 @@ judge_sheet-requires c =
 pub returns-in-Err : goal.returns-in-Err
 returns-in-Err c =
     let j = c.judge_table in
-    rw c.number.ensures (A.answer_refused _ _ _ _ _ _ _ j.ensures c.args.kinds.now c.args.values.now c.args.sheet.now _ c.in-Err.is)
+    rw c.unusable.ensures (A.answer_refused _ _ _ _ _ _ _ j.ensures c.args.kinds.now c.args.values.now c.args.sheet.now _ c.in-Err.is)
 
 pub returns-else-kinds-ge-COUNTED : goal.returns-else-kinds-ge-COUNTED
 returns-else-kinds-ge-COUNTED c =

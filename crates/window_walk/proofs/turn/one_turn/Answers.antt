@@ -1,13 +1,11 @@
-use Rattle.std.proofs.Common.{arith, rules, sym, ap, ◌∙◌, ◌≡◌, Bool, true, false, not, List, ℕ, ℤ, ◌+ℤ◌, SFits, to_z, of_z, to_z-of_z}
+use Rattle.std.proofs.Common.{rules, sym, ap, ◌∙◌, ◌≡◌, Bool, true, false, not, ℕ, ℤ, ◌+ℤ◌, SFits, to_z, of_z, to_z-of_z}
 use Rattle.std.proofs.lemmas.Bool.{not-true, not-false}
 use Rattle.std.specs.Int.{w64}
 use Rattle.std.specs.Int.Signed.{lt_z, le_z}
 use Rattle.meaning.specs.Value.{in_range}
 use Rattle.meaning_window.specs.Window.{value_at}
-use Rattle.value.specs.Overflow.{fits64, in_range_size}
-use Rattle.theory_base.specs.Absolute.{nat_abs_add}
 use Rattle.window_cells.specs.Signed.{le_not_lt}
-use Rattle.window_found.specs.Turns.{ReadyForTurn, stays_at}
+use Rattle.window_found.specs.Turns.{stays_at, passing}
 use Rattle.window_found.specs.declared.Walk.{Walk}
 use Rattle.window_found.specs.Turning.{does_out, does_pass, does_other, does_end, does_stay}
 use Rattle.window_walk.proofs.turn.one_turn.Goals as goal
@@ -27,8 +25,9 @@ leads x t f g r e = by r (sym (le_not_lt x t) ∙ (sym (λ j. le_z (to_z-of_z f 
 stayed : (i k : ℕ) (x v : ℤ) → SFits w64 x → SFits w64 v → (b r : Bool) → b ≡ stays_at i k (to_z w64 (of_z w64 x)) (to_z w64 (of_z w64 v)) → b ≡ r → stays_at i k x v ≡ r
 stayed i k x v f g b r e t = sym (e ∙ (λ j. stays_at i k (to_z-of_z f j) (to_z-of_z g j))) ∙ t
 
-summed : (s : List ℤ) (w : Walk) (x : ℤ) → ReadyForTurn s w → in_range x ≡ true → SFits w64 (w.sum +ℤ x)
-summed s w x p e = fits64 (w.sum +ℤ x) (omega (arith, nat_abs_add w.sum x, in_range_size x e, p.size))
+-- the sum of a walk that has gone by one more value
+summed : (w : Walk) {u : Walk} {i : ℕ} {x : ℤ} → SFits w64 x → u ≡ passing w i (to_z w64 (of_z w64 x)) → SFits w64 u.sum → SFits w64 (w.sum +ℤ x)
+summed w f q m = rw (to_z-of_z f) at (rw q at m)
 
 -- ---- the answers
 
@@ -46,12 +45,9 @@ returns-then-v-w c =
     let r = c.before-slot in
     let x : ℤ = value_at a.slots.now r.result in
     let f : SFits w64 x = search rules in
-    let s : SFits w64 a.w.sum = search rules in
     let t : SFits w64 a.w.top = search rules in
-    let b : SFits w64 a.w.best = search rules in
     let e : in_range x ≡ true = ranged x f _ _ c.in_range.ensures c.if-not-in_range.false in
-    let n : SFits w64 (a.w.sum +ℤ x) = summed a.slots.now a.w x c.requires e in
-    does_pass a.slots.now a.area.now a.next a.value a.w a.leaders.now r.result r.ensures.0 e (leads x a.w.top f t _ c.if-v-w.true) (simp to_z-of_z)
+    does_pass a.slots.now a.area.now a.next a.value a.w a.leaders.now r.result r.ensures.0 e (leads x a.w.top f t _ c.if-v-w.true) (simp (c.passed_by-passed.ensures, to_z-of_z))
 
 pub returns-then-not-is_matched : goal.returns-then-not-is_matched
 returns-then-not-is_matched c =
@@ -69,13 +65,13 @@ returns-then-not-is_staying c =
     let r = c.before-slot in
     let x : ℤ = value_at a.slots.now r.result in
     let f : SFits w64 x = search rules in
-    let s : SFits w64 a.w.sum = search rules in
     let t : SFits w64 a.w.top = search rules in
     let b : SFits w64 a.w.best = search rules in
     let e : in_range x ≡ true = ranged x f _ _ c.in_range.ensures c.if-not-in_range.false in
-    let n : SFits w64 (a.w.sum +ℤ x) = summed a.slots.now a.w x c.requires e in
+    let m : SFits w64 c.passed_by-passed.result.sum = search rules in
+    let n : SFits w64 (a.w.sum +ℤ x) = summed a.w f c.passed_by-passed.ensures m in
     does_end a.slots.now a.area.now a.next a.value a.w a.leaders.now r.result r.ensures.0 e (leads x a.w.top f t _ c.if-v-w.false) (sym c.is_matched.ensures ∙ c.if-not-is_matched.false)
-    (stayed r.result a.next x a.value f c.ranges.value _ _ c.is_staying.ensures c.if-not-is_staying.true) (simp to_z-of_z)
+    (stayed r.result a.next x a.value f c.ranges.value _ _ c.is_staying.ensures c.if-not-is_staying.true) (simp (c.passed_by-passed.ensures, to_z-of_z))
 
 pub returns : goal.returns
 returns c =
@@ -83,9 +79,9 @@ returns c =
     let r = c.before-slot in
     let x : ℤ = value_at a.slots.now r.result in
     let f : SFits w64 x = search rules in
-    let s : SFits w64 a.w.sum = search rules in
     let t : SFits w64 a.w.top = search rules in
     let e : in_range x ≡ true = ranged x f _ _ c.in_range.ensures c.if-not-in_range.false in
-    let n : SFits w64 (a.w.sum +ℤ x) = summed a.slots.now a.w x c.requires e in
+    let m : SFits w64 c.passed_by-passed.result.sum = search rules in
+    let n : SFits w64 (a.w.sum +ℤ x) = summed a.w f c.passed_by-passed.ensures m in
     does_stay a.slots.now a.area.now a.next a.value a.w a.leaders.now r.result r.ensures.0 e (leads x a.w.top f t _ c.if-v-w.false) (sym c.is_matched.ensures ∙ c.if-not-is_matched.false)
-    (stayed r.result a.next x a.value f c.ranges.value _ _ c.is_staying.ensures c.if-not-is_staying.false) (simp to_z-of_z)
+    (stayed r.result a.next x a.value f c.ranges.value _ _ c.is_staying.ensures c.if-not-is_staying.false) (simp (c.passed_by-passed.ensures, to_z-of_z))
