@@ -103,11 +103,8 @@ fn segment(
         };
     }
     open(registers, places, program, n, k);
-    let mut numbers = [0u64; 8];
-    numbers[2] = count as u64;
-    numbers[3] = 1;
-    numbers[6] = n as u64;
-    numbers[7] = k as u64;
+    // Neither tokens nor moves, the result's registers, the first place and address; the sheet from its begin on; what is lent.
+    let mut numbers = [0, 0, count as u64, 1, 0, 0, n as u64, k as u64];
     if crate::tree::node(
         registers,
         places,
