@@ -12,7 +12,10 @@ fn copy<T: Copy>(from: &[T], to: &mut [T], height: usize)
     requires { (height ≤ length from.now) × (height ≤ length to.old) }
     ensures { to.new ≡ take height from.now ++ drop height to.old }
 {
-    to[..height].copy_from_slice(&from[..height]);
+    // Kept: by an index, since `copy_from_slice` needs `memmove` from outside: it does not know that the two lists are apart.
+    for i in 0..height {
+        to[i] = from[i];
+    }
 }
 
 // ---- a token tried
