@@ -1,10 +1,9 @@
 // What the entry conditions of each production leave: a low and a high end for each inherited attribute, production p's
-// from 8 p on, and what there are of them.
+// from 8 p on, and what there are of them: 0 none, 1 ranges, 2 a comparison.
 ghost use Rattle.std.specs.Prelude.{◌≡◌, ◌<◌, length, not, eqb};
 ghost use Rattle.meaning.specs.Limits.{attributes_limit, productions_limit};
 ghost use Rattle.meaning.specs.Grammar.{production_at};
 ghost use Rattle.outline.specs.Outline.{grammar_in};
-ghost use Rattle.clash_entries.specs.conditions.Ranks.{ranks_of};
 ghost use Rattle.clash_entries.specs.conditions.EntryConditions.{rank_by};
 ghost use Rattle.clash_entries.specs.conditions.Walk.{after_all};
 ghost use Rattle.clash.specs.Kept.{Stored, bounds_length};
@@ -46,7 +45,7 @@ pub fn keep(
     kept: &mut KeptEntries,
 )
     requires { (p < productions_limit) × Placed table.now offsets.now p × (length kept.old.lows ≡ bounds_length) × (length kept.old.highs ≡ bounds_length) }
-    ensures { KeepsIf wanted table.now p kept.old.lows kept.old.highs (ranks_of kept.old.ranks) kept.new.lows kept.new.highs (ranks_of kept.new.ranks) }
+    ensures { KeepsIf wanted table.now p kept.old.lows kept.old.highs kept.old.ranks kept.new.lows kept.new.highs kept.new.ranks }
 {
     if !wanted {
         return;
@@ -54,7 +53,7 @@ pub fn keep(
     let mut low = [0u32; ATTRIBUTES];
     let mut high = [u32::MAX; ATTRIBUTES];
     let from = offsets[p] as usize;
-    kept.ranks[p] = narrow_by(&table[from..], &mut low, &mut high);
+    kept.ranks[p] = narrow_by(&table[from..], &mut low, &mut high).rank();
     store(&mut kept.lows, p, &low);
     store(&mut kept.highs, p, &high);
 }

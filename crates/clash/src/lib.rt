@@ -12,14 +12,12 @@ ghost use Rattle.token_set.specs.SetBits.{set_of};
 ghost use Rattle.outline.specs.Images.{Image};
 ghost use Rattle.set_words.specs.Views.{members};
 ghost use Rattle.analysis.specs.Lowest.{Lowest};
-ghost use Rattle.clash_entries.specs.conditions.Ranks.{ranks_of};
 ghost use Rattle.clash_rivals.specs.Rivals.{rival};
 ghost use Rattle.outline.specs.Outline.{grammar_in};
 ghost use Rattle.clash.specs.Clashing.{Given, Meeting, FirstRival, FirstCrossing};
 
 use crate::kept::{has_entry, keep};
 use crate::together::enters_together;
-use clash_entries::conditions::entry::Entry;
 use clash_rivals::intervals::KeptEntries;
 use clash_rivals::next_rival;
 use limits::{BOUNDS, NONTERMINALS, PRODUCTIONS, ROWS};
@@ -36,7 +34,7 @@ fn first_rival(
     seen: TokenSet,
 ) -> Option<usize>
     requires { later < productions_limit }
-    ensures { FirstRival (meet (set_of seen.0) (set_of (get_or sets.now later 0))) (rival rows.now sets.now kept.now.lows kept.now.highs (ranks_of kept.now.ranks) later) later result }
+    ensures { FirstRival (meet (set_of seen.0) (set_of (get_or sets.now later 0))) (rival rows.now sets.now kept.now.lows kept.now.highs kept.now.ranks later) later result }
 {
     if seen.meets(TokenSet(sets[later])) {
         next_rival(rows, sets, kept, later, 0)
@@ -108,7 +106,7 @@ fn lowest_by_entry(
     let mut kept = KeptEntries {
         lows: [0; BOUNDS],
         highs: [0; BOUNDS],
-        ranks: [Entry::Free; PRODUCTIONS],
+        ranks: [0; PRODUCTIONS],
     };
     let mut seen = [0u64; NONTERMINALS];
     let mut lowest = None;

@@ -4,7 +4,6 @@ ghost use Rattle.std.specs.Prelude.{◌≡◌, true, ◌++◌, ◌<◌, get_or};
 ghost use Rattle.meaning.specs.Limits.{attributes_limit, productions_limit};
 ghost use Rattle.meaning.specs.Grammar.{production_at};
 ghost use Rattle.meaning.specs.Differences.{solvable};
-ghost use Rattle.clash_entries.specs.conditions.Ranks.{ranks_of};
 ghost use Rattle.clash_entries.specs.conditions.EntryConditions.{at_entry};
 ghost use Rattle.outline.specs.Outline.{grammar_in};
 ghost use Rattle.clash.specs.Placing.{Placed};
@@ -37,16 +36,17 @@ fn leaves_differences(
 pub fn enters_together(
     table: &[u8],
     offsets: &[u32; PRODUCTIONS],
-    ranks: &[Entry; PRODUCTIONS],
+    ranks: &[u8; PRODUCTIONS],
     later: usize,
     earlier: usize,
 ) -> bool
-    requires own { (later < productions_limit) × Placed table.now offsets.now later × Ranked table.now (ranks_of ranks.now) later }
-    requires other { (earlier < productions_limit) × Placed table.now offsets.now earlier × Ranked table.now (ranks_of ranks.now) earlier }
-    requires ranges { get_or (ranks_of ranks.now) later 0 ≡ 1 → get_or (ranks_of ranks.now) earlier 0 ≡ 1 → enter_in table.now later earlier ≡ true }
+    requires own { (later < productions_limit) × Placed table.now offsets.now later × Ranked table.now ranks.now later }
+    requires other { (earlier < productions_limit) × Placed table.now offsets.now earlier × Ranked table.now ranks.now earlier }
+    requires ranges { get_or ranks.now later 0 ≡ 1 → get_or ranks.now earlier 0 ≡ 1 → enter_in table.now later earlier ≡ true }
     ensures { result ≡ enter_in table.now later earlier }
 {
-    if !ranks[later].need_differences(ranks[earlier]) {
+    let own = Entry::of_rank(ranks[later]);
+    if !own.need_differences(Entry::of_rank(ranks[earlier])) {
         return true;
     }
     leaves_differences(table, offsets, later, earlier)

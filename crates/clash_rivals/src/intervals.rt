@@ -3,16 +3,15 @@ ghost use Rattle.std.specs.Prelude.{◌≡◌, ◌<◌};
 ghost use Rattle.meaning.specs.Limits.{productions_limit};
 ghost use Rattle.clash_rivals.specs.intervals.Intervals.{leave_values};
 
-use clash_entries::conditions::entry::Entry;
 use limits::{ATTRIBUTES, BOUNDS, PRODUCTIONS};
 
-// A low and a high end for each inherited attribute, production p's from 8 p on, and what conditions each production has. It is lent, never copied.
+// A low and a high end for each inherited attribute, production p's from 8 p on, and the rank of what conditions each production has: 0 none, 1 ranges, 2 a comparison. It is lent, never copied.
 // Kept: two arrays of ends, since the specs see each as a list of numbers, and one of them alone is stored at a time.
 #[derive(Drop)]
 pub struct KeptEntries {
     pub lows: [u32; BOUNDS],
     pub highs: [u32; BOUNDS],
-    pub ranks: [Entry; PRODUCTIONS],
+    pub ranks: [u8; PRODUCTIONS],
 }
 
 impl KeptEntries {

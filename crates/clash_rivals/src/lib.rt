@@ -4,10 +4,10 @@
 
 ghost use Rattle.std.specs.Prelude.{◌≡◌, ◌<◌, ◌≤◌};
 ghost use Rattle.meaning.specs.Limits.{productions_limit};
-ghost use Rattle.clash_entries.specs.conditions.Ranks.{ranks_of};
 ghost use Rattle.clash_rivals.specs.Rivals.{start_together, rival, NextRival};
 
 use crate::intervals::KeptEntries;
+use clash_entries::conditions::entry::Entry;
 use limits::{PRODUCTIONS, ROWS};
 use outline::left_of;
 use token_set::TokenSet;
@@ -33,10 +33,12 @@ fn is_rival(
     q: usize,
 ) -> bool
     requires { (p < productions_limit) × (q < productions_limit) }
-    ensures { result ≡ rival rows.now sets.now kept.now.lows kept.now.highs (ranks_of kept.now.ranks) p q }
+    ensures { result ≡ rival rows.now sets.now kept.now.lows kept.now.highs kept.now.ranks p q }
 {
     starts_together(rows, sets, p, q)
-        && (!kept.ranks[p].is_ranges() || !kept.ranks[q].is_ranges() || kept.leave_values(p, q))
+        && (!Entry::of_rank(kept.ranks[p]).is_ranges()
+            || !Entry::of_rank(kept.ranks[q]).is_ranges()
+            || kept.leave_values(p, q))
 }
 
 // The first rival of `later` from `from` on.
@@ -48,7 +50,7 @@ pub fn next_rival(
     from: usize,
 ) -> Option<usize>
     requires { (later < productions_limit) × (from ≤ later) }
-    ensures { NextRival (rival rows.now sets.now kept.now.lows kept.now.highs (ranks_of kept.now.ranks) later) later from result }
+    ensures { NextRival (rival rows.now sets.now kept.now.lows kept.now.highs kept.now.ranks later) later from result }
 {
     for earlier in from..later {
         if is_rival(rows, sets, kept, later, earlier) {

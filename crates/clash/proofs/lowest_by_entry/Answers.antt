@@ -1,4 +1,3 @@
-use Rattle.clash_entries.specs.conditions.Ranks.{ranks_of}
 use Rattle.std.proofs.Common.{ℕ, rules, ◌≡◌, ◌<◌, ◌≤◌, ◌+◌, true, refl, arith}
 use Rattle.std.specs.Prelude.{Option, None}
 use Rattle.meaning.specs.Limits.{nonterminals_limit, productions_limit}
@@ -31,14 +30,14 @@ bounds-seen-at c =
 pub loop-rival-init : goal.loop-rival-init
 loop-rival-init c =
     let few : c.args.count ≤ productions_limit = (image_of c.requires.0.productions.rows_of).few in
-    let keeping : KeptTo c.args.table.now c.args.rows.now c.args.met.0 c.keep.new.kept.lows c.keep.new.kept.highs (ranks_of c.keep.new.kept.ranks) (c.pairs.later + 1) =
+    let keeping : KeptTo c.args.table.now c.args.rows.now c.args.met.0 c.keep.new.kept.lows c.keep.new.kept.highs c.keep.new.kept.ranks (c.pairs.later + 1) =
     kept_next (omega (arith, few, c.pairs-test.true)) c.pairs.invariant.2 _ (rw c.left_of-left.ensures at c.has-on.ensures) c.keep.ensures in
     (first_known c.requires.0 c.requires.1 _ keeping c.pairs-test.true _ c.pairs.invariant.0 _ (rw c.left_of-left.ensures at c.first_rival-rival.ensures), c.pairs.invariant.3)
 
 pub enters_together-requires : goal.enters_together-requires
 enters_together-requires c =
     let few : c.args.count ≤ productions_limit = (image_of c.requires.0.productions.rows_of).few in
-    let keeping : KeptTo c.args.table.now c.args.rows.now c.args.met.0 c.keep.new.kept.lows c.keep.new.kept.highs (ranks_of c.keep.new.kept.ranks) (c.pairs.later + 1) =
+    let keeping : KeptTo c.args.table.now c.args.rows.now c.args.met.0 c.keep.new.kept.lows c.keep.new.kept.highs c.keep.new.kept.ranks (c.pairs.later + 1) =
     kept_next (omega (arith, few, c.pairs-test.true)) c.pairs.invariant.2 _ (rw c.left_of-left.ensures at c.has-on.ensures) c.keep.ensures in
     let w = rw c.in-Some.is at c.loop-rival.invariant.0 in
     let listed : c.in-Some.earlier < c.args.count = omega (arith, w.0, c.pairs-test.true) in
@@ -57,7 +56,7 @@ returns-then-enters_together c =
 pub loop-rival-preserved : goal.loop-rival-preserved
 loop-rival-preserved c =
     let few : c.args.count ≤ productions_limit = (image_of c.requires.0.productions.rows_of).few in
-    let keeping : KeptTo c.args.table.now c.args.rows.now c.args.met.0 c.keep.new.kept.lows c.keep.new.kept.highs (ranks_of c.keep.new.kept.ranks) (c.pairs.later + 1) =
+    let keeping : KeptTo c.args.table.now c.args.rows.now c.args.met.0 c.keep.new.kept.lows c.keep.new.kept.highs c.keep.new.kept.ranks (c.pairs.later + 1) =
     kept_next (omega (arith, few, c.pairs-test.true)) c.pairs.invariant.2 _ (rw c.left_of-left.ensures at c.has-on.ensures) c.keep.ensures in
     let w = rw c.in-Some.is at c.loop-rival.invariant.0 in
     let listed : c.in-Some.earlier < c.args.count = omega (arith, w.0, c.pairs-test.true) in
@@ -74,7 +73,7 @@ pub pairs-preserved : goal.pairs-preserved
 pairs-preserved c =
     let below : left_at c.args.rows.now c.pairs.later < nonterminals_limit = (image_of c.requires.0.productions.rows_of).lefts _ c.pairs-test.true in
     let few : c.args.count ≤ productions_limit = (image_of c.requires.0.productions.rows_of).few in
-    let keeping : KeptTo c.args.table.now c.args.rows.now c.args.met.0 c.keep.new.kept.lows c.keep.new.kept.highs (ranks_of c.keep.new.kept.ranks) (c.pairs.later + 1) =
+    let keeping : KeptTo c.args.table.now c.args.rows.now c.args.met.0 c.keep.new.kept.lows c.keep.new.kept.highs c.keep.new.kept.ranks (c.pairs.later + 1) =
     kept_next (omega (arith, few, c.pairs-test.true)) c.pairs.invariant.2 _ (rw c.left_of-left.ensures at c.has-on.ensures) c.keep.ensures in
     let none : ◌≡◌ {A = Option ℕ} c.loop-rival.rival None = search rules in
     let inv = c.pairs.invariant in

@@ -1,5 +1,4 @@
 use Rattle.std.specs.Prelude.{◌≡◌, None}
-use Rattle.clash_entries.specs.conditions.Ranks.{ranks_of}
 use Rattle.meaning.specs.Decide.{clashes}
 use Rattle.analysis.specs.Numbers.{Clear}
 use Rattle.clash_rivals.specs.Rivals.{rival}
@@ -9,10 +8,10 @@ use Rattle.clash.proofs.Laws.{Ahead, to_look_at}
 use Rattle.clash.proofs.lowest_by_entry.Given as goal
 
 abbrev pub invariant-loop-rival : goal.invariant-loop-rival
-invariant-loop-rival l = Ahead (clash_in l.table l.later) (rival l.rows l.sets l.kept.lows l.kept.highs (ranks_of l.kept.ranks) l.later) l.later l.rival × (l.lowest ≡ None)
+invariant-loop-rival l = Ahead (clash_in l.table l.later) (rival l.rows l.sets l.kept.lows l.kept.highs l.kept.ranks l.later) l.later l.rival × (l.lowest ≡ None)
 
 abbrev pub decreases-loop-rival : goal.decreases-loop-rival
 decreases-loop-rival l = to_look_at l.later l.rival
 
 abbrev pub invariant-pairs : goal.invariant-pairs
-invariant-pairs l = Seen l.rows l.sets l.later l.seen × Clear (clashes (grammar_in l.table)) l.later × KeptTo l.table l.rows l.met.0 l.kept.lows l.kept.highs (ranks_of l.kept.ranks) l.later × (l.lowest ≡ None)
+invariant-pairs l = Seen l.rows l.sets l.later l.seen × Clear (clashes (grammar_in l.table)) l.later × KeptTo l.table l.rows l.met.0 l.kept.lows l.kept.highs l.kept.ranks l.later × (l.lowest ≡ None)

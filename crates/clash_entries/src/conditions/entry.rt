@@ -35,6 +35,29 @@ impl Entry {
         matches!(self, Entry::Ranges)
     }
 
+    // The number that is kept of it: 0 none, 1 ranges, 2 a comparison.
+    pub fn rank(self) -> u8
+        ensures { result ≡ rank self }
+    {
+        match self {
+            Entry::Free => 0,
+            Entry::Ranges => 1,
+            Entry::Compared => 2,
+        }
+    }
+
+    // What a kept number says; any above 1 says a comparison.
+    pub fn of_rank(number: u8) -> Entry
+        ensures said { rank result ≡ min 2 number }
+        ensures ranges { eqb (rank result) 1 ≡ eqb number 1 }
+    {
+        match number {
+            0 => Entry::Free,
+            1 => Entry::Ranges,
+            _ => Entry::Compared,
+        }
+    }
+
     // Whether the intervals of two productions do not tell all of their entry conditions: both have some, and one of them compares.
     pub fn need_differences(self, other: Entry) -> bool
         ensures yes { result ≡ true → 2 < rank self + rank other }

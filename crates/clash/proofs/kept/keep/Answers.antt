@@ -1,4 +1,3 @@
-use Rattle.clash_entries.specs.conditions.Ranks.{ranks_of, rank_set}
 use mathlib.Core.Path.{◌≡◌, refl, sym, ap, ◌∙◌, subst}
 use mathlib.Core.Bool.{true, false}
 use lib.Dec.{T}
@@ -21,6 +20,6 @@ returns c =
     let n = c.narrow_by.ensures in
     let y = c.if-not-wanted.false in
     record {
-      taken = λ _. record { low = stored_as (n.low _ x) c.store.ensures; high = stored_as (n.high _ x) c.store-2.ensures; rank = rank_set c.args.kept.now.ranks c.args.p c.narrow_by.result ∙ ap (set (ranks_of c.args.kept.now.ranks) c.args.p) (n.said _ x) };
+      taken = λ _. record { low = stored_as (n.low _ x) c.store.ensures; high = stored_as (n.high _ x) c.store-2.ensures; rank = ap (set c.args.kept.now.ranks c.args.p) (c.rank.ensures ∙ n.said _ x) };
       passed = λ e. let z : true ≡ false = sym y ∙ e in absurd (subst T z tt);
     }
