@@ -8,7 +8,7 @@ ghost use Rattle.table_rules.specs.Rule.{operand_class, operand_place, class_fau
 
 use limits::POSITIONS;
 use refusals::TableFault;
-use table_rules::Class;
+use table_rules::{Class, Classed};
 
 // The class of the k-th of n operands; one past them counts as an input.
 #[tactic(auto, unfolding(table_rules::specs::Rule::operand_class, table_fields::specs::Demand::if_below))]
@@ -45,16 +45,16 @@ pub fn operand_place(body: &[u8], n: usize, k: usize) -> usize
 
 // The lowest of 5 and 7 that applies to a target and two operands of these classes.
 #[tactic(auto, unfolding(table_rules::specs::Rule::class_fault, table_fields::specs::Demand::differs))]
-pub fn class_fault(target: Class, first: Class, second: Class) -> Result<(), TableFault>
-    ensures { fault_or_zero result ≡ class_fault (class_number target) (class_number first) (class_number second) }
+pub fn class_fault<C: Classed>(target: C, first: C, second: C) -> Result<(), TableFault>
+    ensures { fault_or_zero result ≡ class_fault (C.number_of target) (C.number_of first) (C.number_of second) }
 {
-    match (target, first, second) {
-        (Class::Unknown, _, _) | (_, Class::Unknown, _) | (_, _, Class::Unknown) => {
-            Err(TableFault::Unknown)
-        }
-        (Class::Output, Class::Input, Class::Input) => Ok(()),
-        _ => Err(TableFault::WrongSide),
+    if target.is_unknown() || first.is_unknown() || second.is_unknown() {
+        return Err(TableFault::Unknown);
     }
+    if target.is_input() || first.is_output() || second.is_output() {
+        return Err(TableFault::WrongSide);
+    }
+    Ok(())
 }
 
 // The lowest of 8 and 9 that applies to a rule with n operands.

@@ -2,7 +2,7 @@
 // definitions by which rules and conditions are judged.
 #![tactic(auto)]
 
-ghost use Rattle.std.specs.Prelude.{◌≡◌, ◌+◌, ◌-◌, ◌<◌, ◌≤◌, length, get_or};
+ghost use Rattle.std.specs.Prelude.{◌≡◌, ℕ, ◌+◌, ◌-◌, ◌<◌, ◌≤◌, length, eqb, get_or};
 ghost use Rattle.meaning.specs.Limits.{attributes_limit, positions_limit, symbols_limit};
 ghost use Rattle.table_rules.specs.Rule.{class_at, class_in, four_at, bit};
 ghost use Rattle.table_rules.specs.Classes.{class_number};
@@ -15,6 +15,53 @@ pub enum Class {
     Unknown,
     Input,
     Output,
+}
+
+// What says what an occurrence is, by its number: a class, or any number that a caller has.
+pub trait Classed: Copy {
+    ghost number_of: { Self → ℕ };
+
+    fn is_unknown(self) -> bool
+        ensures { result ≡ eqb (number_of self) 0 };
+
+    fn is_input(self) -> bool
+        ensures { result ≡ eqb (number_of self) 1 };
+
+    fn is_output(self) -> bool
+        ensures { result ≡ eqb (number_of self) 2 };
+}
+
+impl Classed for Class {
+    ghost number_of = { class_number };
+
+    fn is_unknown(self) -> bool {
+        matches!(self, Class::Unknown)
+    }
+
+    fn is_input(self) -> bool {
+        matches!(self, Class::Input)
+    }
+
+    fn is_output(self) -> bool {
+        matches!(self, Class::Output)
+    }
+}
+
+// Any number, also one that is no class's.
+impl Classed for usize {
+    ghost number_of = { λ n. n };
+
+    fn is_unknown(self) -> bool {
+        self == 0
+    }
+
+    fn is_input(self) -> bool {
+        self == 1
+    }
+
+    fn is_output(self) -> bool {
+        self == 2
+    }
 }
 
 #[tactic(auto, unfolding(crate::specs::Rule::class_at, table_fields::specs::Demand::if_below, table_fields::specs::Demand::if_equal))]
