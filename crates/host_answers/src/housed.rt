@@ -1,4 +1,5 @@
 // The answer of the writer of house order as lent numbers.
+ghost use Rattle.std.specs.Prelude.{◌≡◌};
 ghost use Rattle.host_answers.specs.declared.housed.TurnedBack.{TurnedBack};
 ghost use Rattle.host_answers.specs.housed.HouseNumbers.{NumberedBy, told_as};
 

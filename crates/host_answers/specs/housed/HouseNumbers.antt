@@ -40,8 +40,8 @@ module _ (w : Result ℕ CallRefusal) where
   pub numbered_short : w ≡ Err (OfCall BufferShort) → Numbered 0 36 0 w
   numbered_short q = numbered_refused (OfCall BufferShort) q
 
-  pub numbered_by : {size number offset : ℕ} → NumberedBy told_as size number offset w → Numbered size number offset w
-  numbered_by {size} {number} {offset} n b = by w n
+  pub numbered_by : (size number offset : ℕ) → NumberedBy told_as size number offset w → Numbered size number offset w
+  numbered_by size number offset n b = by w n
     where
       by : (w : Result ℕ CallRefusal) → NumberedBy told_as size number offset w → Answered size number offset (house_is w b).answer
       by (Ok n) a = a
