@@ -24,7 +24,10 @@ pub fn copy(bytes: &[u8], out: &mut [u8], to: usize)
     requires { to + length bytes.now ≤ length out.old }
     ensures { out.new ≡ paste out.old to bytes.now (length bytes.now) }
 {
-    out[to..to + bytes.len()].copy_from_slice(bytes);
+    // Kept: by an index, since `copy_from_slice` needs `memmove` from outside: it does not know that the two lists are apart.
+    for i in 0..bytes.len() {
+        out[to + i] = bytes[i];
+    }
 }
 
 // Copies the fields at these offsets into the buffer from an offset on.
