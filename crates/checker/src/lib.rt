@@ -19,6 +19,7 @@ pub mod spans;
 
 // The verdict on any bytes as a table. It calls the reader and the judge of grammars itself, as `judge_table` does: so the compiler keeps
 // each of them a function of its own, with fewer values to hold at a time.
+// Kept: `match` and no `?`, which writes a refusal to memory once more, byte by byte.
 pub fn check(table: &[u8]) -> Result<(), TableRefusal>
     ensures { verdict_is result ≡ verdict_of table.now }
 {
@@ -27,15 +28,17 @@ pub fn check(table: &[u8]) -> Result<(), TableRefusal>
     let mut rows = [0u8; ROWS];
     let mut offsets = [0u32; PRODUCTIONS];
     let mut sets = [0u64; PRODUCTIONS];
-    let sizes = read_table(
+    match read_table(
         table,
         &mut inherited,
         &mut synthesized,
         &mut rows,
         &mut offsets,
         &mut sets,
-    )?;
-    judge_grammar(table, sizes, &rows, &offsets, &mut sets)
+    ) {
+        Ok(sizes) => judge_grammar(table, sizes, &rows, &offsets, &mut sets),
+        Err(refusal) => Err(refusal),
+    }
 }
 
 // A production's stretch of the table, from its tag 3 to the next or the end. On a refusal an empty part, with number and offset

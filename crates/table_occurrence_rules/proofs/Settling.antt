@@ -24,6 +24,15 @@ use Rattle.table_occurrences.specs.OccurrenceBits.{Settled, noted_by}
 use Rattle.table_rule_fields.proofs.note.Noting.{less_one}
 use Rattle.table_rule_fields.proofs.note.Gaps.{or_parts}
 
+-- ---- where operands may stand
+
+pub limit_at_least : (p : ℕ) → 1 ≤ if_equal p 0 positions_limit p
+limit_at_least p = go (ℕ_discrete p 0)
+  where
+    go : Dec (p ≡ 0) → 1 ≤ if_equal p 0 positions_limit p
+    go (yes z) = subst (λ (x : ℕ). 1 ≤ x) (equal_yes p 0 positions_limit p z refl) (omega arith)
+    go (no n) = subst (λ (x : ℕ). 1 ≤ x) (equal_no p 0 positions_limit p n refl) (omega arith)
+
 -- ---- a target settled
 
 module _ (width : ℕ) (inh syn note words : List ℕ) (w : Settled width inh syn note words) (p a : ℕ) (place : p < positions_limit) (near : a < 16) (free : bit (get_or words p 0) a ≡ false) where

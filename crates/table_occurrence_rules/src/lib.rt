@@ -4,17 +4,19 @@
 ghost use Rattle.std.specs.Prelude.{◌≡◌, true, false, List, ℕ, ◌+◌, ◌*◌, ◌<◌, ◌≤◌, length};
 ghost use Rattle.meaning.specs.Limits.{positions_limit};
 ghost use Rattle.meaning.specs.Table.{byte};
+ghost use Rattle.table_fields.specs.Demand.{if_equal};
 ghost use Rattle.table_rules.specs.Rule.{bit, class_in, operand_count, OperandsFit};
 ghost use Rattle.table_occurrences.specs.OccurrenceBits.{Inputs, RuleSettled};
 
 use limits::POSITIONS;
 
+// Kept: 32 bits and not a usize, for which the compiler finds no instruction that tests a bit.
 #[tactic(auto, unfolding(table_rules::specs::Rule::bit))]
 pub fn bit_of(word: u16, attribute: usize) -> bool
     requires { attribute < 16 }
     ensures { result ≡ bit word attribute }
 {
-    (word as usize >> attribute) % 2 == 1
+    (u32::from(word) >> attribute) % 2 == 1
 }
 
 // True only of an input, in two bytes of a body, at a position below a limit.
@@ -27,16 +29,18 @@ pub fn is_input(inputs: &[u16; POSITIONS], limit: usize, body: &[u8], at: usize)
     position < limit && attribute < 16 && bit_of(inputs[position], attribute)
 }
 
-// True only where all operands of a rule by function f are inputs at positions below a limit.
+// True only where all operands of a rule by function f, whose target stands at a position, are inputs at positions below the limit of that one.
 // Kept: one test of the first operand for all functions, and tests one after the other, so that the processor can guess where the next field begins.
+// The limit is asked for where there is an operand.
 #[tactic(auto, unfolding(table_rules::specs::Rule::operand_count, table_fields::specs::Demand::if_equal, table_fields::specs::Demand::if_below))]
-fn are_inputs(inputs: &[u16; POSITIONS], limit: usize, body: &[u8], f: usize) -> bool
-    requires { (1 ≤ limit) × (limit ≤ positions_limit) × (f ≤ 8) × (3 + 2 * operand_count f ≤ length body.now) }
-    ensures { (width : ℕ) (inh syn : List ℕ) → Inputs width inh syn inputs.now → result ≡ true → OperandsFit limit width inh syn body.now (operand_count f) }
+fn are_inputs(inputs: &[u16; POSITIONS], position: usize, body: &[u8], f: usize) -> bool
+    requires { (position < positions_limit) × (f ≤ 8) × (3 + 2 * operand_count f ≤ length body.now) }
+    ensures { (width : ℕ) (inh syn : List ℕ) → Inputs width inh syn inputs.now → result ≡ true → OperandsFit (if_equal position 0 positions_limit position) width inh syn body.now (operand_count f) }
 {
     if f == 0 {
         return true;
     }
+    let limit = limit_of(position);
     if !is_input(inputs, limit, body, 3) {
         return false;
     }
@@ -44,9 +48,10 @@ fn are_inputs(inputs: &[u16; POSITIONS], limit: usize, body: &[u8], f: usize) ->
 }
 
 // Operands stand below the position of their target, unless that is the left side.
+#[tactic(auto, unfolding(table_fields::specs::Demand::if_equal))]
 fn limit_of(position: usize) -> usize
     requires { position < positions_limit }
-    ensures { (1 ≤ result) × (result ≤ positions_limit) × ((position ≡ 0 → ⊥) → result ≡ position) }
+    ensures { (1 ≤ result) × (result ≤ positions_limit) × (result ≡ if_equal position 0 positions_limit position) }
 {
     if position == 0 { POSITIONS } else { position }
 }
@@ -68,7 +73,7 @@ pub fn settle(
         return false;
     }
     let word = settled[position];
-    if bit_of(word, attribute) || !are_inputs(inputs, limit_of(position), body, f) {
+    if bit_of(word, attribute) || !are_inputs(inputs, position, body, f) {
         return false;
     }
     settled[position] = word | (1u16 << attribute);

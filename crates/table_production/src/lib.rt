@@ -42,6 +42,8 @@ fn judge_head(table: &[u8], at: usize, p: usize, nonterminals: usize) -> Result<
 
 // The rules and conditions of the production at an offset, one by one, with what is wrong with them, from the field on where the walk past sound
 // ones stopped, with the note of the rules before it, which the words that are settled tell.
+// Kept: out of line, since few productions come here, and what it holds would drive what the walk past sound fields holds out of the registers.
+#[inline(never)]
 fn judge_body(
     table: &[u8],
     at: usize,

@@ -13,25 +13,26 @@ ghost use Rattle.table_sound_items.specs.Sound.{RuleSound, RuleStands, Condition
 use limits::{CONDITIONS, POSITIONS, RULES};
 use table_items::Items;
 
-// The length of a rule's body by its function, if that is known.
-// Kept: the four lengths are told apart by branches that return early, so that the processor can guess where the next field begins.
+// The length of a rule's body by its function; 0 for one that is not known.
+// Kept: the four lengths are told apart by branches that return early, so that the processor can guess where the next field begins; 0 and no
+// Option, which is asked for with more instructions at each rule.
 #[tactic(auto, unfolding(table_rules::specs::Rule::length_of, table_fields::specs::Demand::if_equal, table_fields::specs::Demand::if_below))]
-fn size_of_rule(f: usize) -> Option<usize>
-    ensures { IfSome result (λ size. (f ≤ 8) × (size ≡ length_of f) × (5 ≤ size) × (size ≤ 9)) }
+fn size_of_rule(f: usize) -> usize
+    ensures { (result ≡ 0 → ⊥) → (f ≤ 8) × (result ≡ length_of f) × (5 ≤ result) × (result ≤ 9) }
 {
     if f == 7 {
-        return Some(9);
+        return 9;
     }
     if f == 1 {
-        return Some(5);
+        return 5;
     }
     if f < 7 {
-        return Some(7);
+        return 7;
     }
     if f == 8 {
-        return Some(9);
+        return 9;
     }
-    None
+    0
 }
 
 // True only where a whole field with a body of this size stands at an offset.
@@ -72,7 +73,10 @@ fn past_rule(
     if RULES <= r || table.len() - at < 8 {
         return None;
     }
-    let size = size_of_rule(table_fields::wide(table[at + 5]))?;
+    let size = size_of_rule(table_fields::wide(table[at + 5]));
+    if size == 0 {
+        return None;
+    }
     if !stands(table, at, size) {
         return None;
     }
